@@ -1,0 +1,5 @@
+pub mod Floors
+pub mod Order
+pub mod Ring
+pub mod Sizes
+pub mod Sums

@@ -1,0 +1,4 @@
+pub mod Checked
+pub mod Fields
+pub mod Floors
+pub mod Sums
