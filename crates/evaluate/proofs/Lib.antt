@@ -1,0 +1,4 @@
+pub mod Working
+pub mod Indexes
+pub mod Terms
+pub mod Runs

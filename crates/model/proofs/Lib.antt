@@ -1,0 +1,11 @@
+pub mod Comparisons
+pub mod Expansion
+pub mod Steps
+pub mod Fewer
+pub mod Listed
+pub mod Heads
+pub mod Trees
+pub mod Numbering
+pub mod Agreement
+pub mod Exhausted
+pub mod Worked
