@@ -33,14 +33,16 @@ pub fn condition(words: &[u64], indexes: &[u32], k: usize) -> Option<bool>
         CondNode::Relate(r, i, j) => {
             compare(r, number(words, indexes, i), number(words, indexes, j))
         }
-        CondNode::Both(i, j) => match condition(words, indexes, i) {
-            Some(first) => if first {
+        CondNode::Both(i, j) => {
+            let Some(first) = condition(words, indexes, i) else {
+                return None;
+            };
+            if first {
                 condition(words, indexes, j)
             } else {
                 Some(false)
-            },
-            None => None,
-        },
+            }
+        }
         CondNode::Bad => None,
     }
 }

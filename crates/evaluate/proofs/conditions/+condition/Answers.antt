@@ -36,13 +36,13 @@ returns-else-first t c = λ d h.
     let e : Some false ≡ worked-condition s is a = ap Some (sym (c .if-first .left)) ∙ c .in-Some .ensures tt a p in
     ap (λ o. then o (λ x. cond x (worked-condition s is b) (Some false))) e ∙ sym (ap (worked-condition s is) z)
 
-pub returns-in-None : need.returns-in-None
+pub returns-in-rest : need.returns-in-rest
 unfolding worked-condition
-returns-in-None t c = λ d h.
+returns-in-rest t c = λ d h.
     let s = symbols-in (c .args .words .now) in
     let is = c .args .indexes .now in
     let (a, b, z, p, q) = cond-fit (c .args .words .now) (c .args .k) (c .in-Both .ensures tt) d h in
-    let e : None ≡ worked-condition s is a = c .in-None .ensures tt a p in
+    let e : None ≡ worked-condition s is a = c .in-rest .ensures tt a p in
     ap (λ o. then o (λ x. cond x (worked-condition s is b) (Some false))) e ∙ sym (ap (worked-condition s is) z)
 
 pub returns-in-Bad : need.returns-in-Bad
