@@ -12,7 +12,7 @@ use Rattle.std.specs.declared.option.Option.the-variants.{Some, None}
 use Rattle.std.proofs.shelf.Tests.{lt-ltb, le-ltb, and-cases, or-parts, ltb-false}
 use Rattle.model.specs.declared.Sign.{Sign}
 use Rattle.model.specs.declared.Running.{Running}
-use Rattle.model.specs.Model.{Cond, Lin, amount, term, chain, sum-over, Constraint, compare, for-all, Symbols}
+use Rattle.model.specs.Model.{Cond, Lin, amount, term, sum-over, chain, nothing, Constraint, compare, for-all, Symbols}
 use Rattle.model.specs.Meaning.{Assignment, size-of, bound}
 use Rattle.model.specs.Evaluation.{then, run, sign-of, worked-filter, summand, instance, worked-sum, worked-constraint, sum-works, constraint-works}
 use Rattle.model.specs.Kept.{Filter-in}
@@ -58,14 +58,15 @@ pub idle-sum : (s : Symbols) (x : Assignment) (g : Sign) (is : List ℕ) (l : Li
 unfolding sum-works worked-sum
 idle-sum s x g is (amount e) r h = let z : _≡_ {A = ℕ} 0 1 = cc in absurd (omega arith)
 idle-sum s x g is (term e k f i) r h = let z : _≡_ {A = ℕ} 0 1 = cc in absurd (omega arith)
-idle-sum s x g is (chain l h t) r e =
-    let (p, q) = or-parts (sum-works s l) (sum-works s t) e in
-    ap (λ o. then o (worked-sum s x (sign-of g h) is t)) (idle-sum s x g is l r p) ∙ idle-sum s x (sign-of g h) is t r q
 idle-sum s x g is (sum-over k c l) r e =
     ⊎-elim (λ p. run-none _ r (size-of s k) (ltb-false 0 (size-of s k) p))
     (λ p. let (q, w) = or-parts (isSome c) (sum-works s l) p in
     run-still _ r (λ i. ap (λ o. then o (λ t. cond t (worked-sum s x g (bound is i) l r) (Some r))) (no-filter s (bound is i) c q) ∙ idle-sum s x g (bound is i) l r w) (size-of s k))
     (and-cases (ltb 0 (size-of s k)) (isSome c || sum-works s l) e)
+idle-sum s x g is (chain h t l) r e =
+    let (p, q) = or-parts (sum-works s t) (sum-works s l) e in
+    ap (λ o. then o (worked-sum s x g is l)) (idle-sum s x (sign-of g h) is t r p) ∙ idle-sum s x g is l r q
+idle-sum s x g is nothing r e = refl
 
 -- and a constraint in which nothing is worked out is met
 pub idle-constraint : (s : Symbols) (x : Assignment) (is : List ℕ) (r : Constraint) → constraint-works s r ≡ false → worked-constraint s x is r ≡ Some true

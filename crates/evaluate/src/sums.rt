@@ -5,12 +5,13 @@
 // below 2^62 on the way, the terms below 2^61 between their bounds), which their sum has not.
 ghost use Prim.Native.Nat.{ℕ, _+_, _<_, _≤_};
 ghost use Rattle.integer.specs.Checked.{checked};
-ghost use Rattle.model.specs.Evaluation.{run, sign-of, sum-works, summand as summand-of, where-so, whole as whole-of, with-constant, with-term, worked-filter, worked-sum, worked-value};
+ghost use Rattle.model.specs.Evaluation.{run, sign-of, sum-works, summand as summand-of, then, where-so, whole as whole-of, with-constant, with-term, worked-filter, worked-number, worked-sum, worked-value};
 ghost use Rattle.model.specs.Kept.{Filter-in, Lin-in, Num-in, Numbered, assignment, sum-depth, symbols-in};
 ghost use Rattle.model.specs.Meaning.{bound, signed, size-of};
-ghost use Rattle.model.specs.Model.{Cond, Lin, Num, term as term-of};
+ghost use Rattle.model.specs.Model.{Cond, Lin, Num, sum-over, term as term-of};
 ghost use Rattle.std.specs.declared.option.Option.the-variants.{Some};
 ghost use Rattle.std.specs.declared.option.Option.{Option};
+ghost use lib.IntN.{_+ℤ_};
 ghost use lib.ListN.{length, take};
 ghost use mathlib.Core.List.{[]};
 ghost use mathlib.Core.Path.{_≡_};
@@ -39,7 +40,7 @@ pub(crate) const NOTHING: Running = Running {
 
 // One number and another behind its sign.
 fn joined(sign: Sign, a: i64, b: i64) -> Option<i64>
-    ensures { λ r. ⌜ r ≡ checked (signed sign a b) ⌝ }
+    ensures { λ r. ⌜ r ≡ checked (a +ℤ signed sign b) ⌝ }
 {
     match sign {
         Sign::Positive => sum(a, b),
@@ -103,18 +104,32 @@ pub(crate) fn whole(r: Running) -> Option<i64>
     sum(r.constant, r.terms)
 }
 
-// Whether anything is worked out in the sum at node k at all, for any values. Where nothing is, its
-// sets are not gone through: eight sets of 1,000 within each other, with an empty one inside, would
-// take for ever.
+// Whether anything is worked out at all in what goes through a set. Where nothing is, the set is not
+// gone through: eight sets of 1,000 within each other, with an empty one inside, would take for ever.
+fn over_works(words: &[u64], over: Over) -> bool
+    ensures { λ r. ⌜ ((c : Option Cond) (l : Lin) → Filter-in (now (words .entry)) (over .filter) c → Lin-in (now (words .entry)) (over .body) l →
+        r ≡ sum-works (symbols-in (now (words .entry))) (sum-over (over .set) c l)) ⌝ }
+{
+    set_size(words, over.set) > 0 && (over.filter.is_some() || works(words, over.body))
+}
+
+// The same of the sum at node k.
 fn works(words: &[u64], k: usize) -> bool
     ensures { λ r. ⌜ ((l : Lin) → Lin-in (now (words .entry)) k l → r ≡ sum-works (symbols-in (now (words .entry))) l) ⌝ }
 {
-    match lin_node(words, k) {
-        LinNode::Chain(i, _, j) => works(words, i) || works(words, j),
-        LinNode::Sum(over) => {
-            set_size(words, over.set) > 0 && (over.filter.is_some() || works(words, over.body))
+    let mut at = k;
+    'chain: loop {
+        match lin_node(words, at) {
+            LinNode::Chain(_, t, rest) => {
+                if works(words, t) {
+                    return true;
+                }
+                at = rest;
+            }
+            LinNode::Sum(over) => return over_works(words, over),
+            LinNode::Nothing => return false,
+            LinNode::Amount | LinNode::Term(_) | LinNode::Bad => return true,
         }
-        LinNode::Amount | LinNode::Term(_) | LinNode::Bad => true,
     }
 }
 
@@ -183,8 +198,25 @@ fn add_summand(
     }
 }
 
-// A sum over a set, one index after the other. `nest` is how many sums may stand in this one, itself
-// among them.
+// A number by itself, added to what was there.
+fn add_amount(
+    words: &[u64],
+    indexes: &[u32],
+    k: usize,
+    sign: Sign,
+    so_far: Running,
+) -> Option<Running>
+    ensures { λ r. ⌜ ((e : Num) → Num-in (now (words .entry)) k e →
+        r ≡ then (worked-number (symbols-in (now (words .entry))) (now (indexes .entry)) e) (λ a. with-constant sign a «so_far»)) ⌝ }
+{
+    let Some(a) = number(words, indexes, k) else {
+        return None;
+    };
+    add_constant(sign, a, so_far)
+}
+
+// A sum over a set, one index after the other. `nest` is how many sums over sets may stand within
+// each other here, this one among them.
 fn add_over(
     words: &[u64],
     values: &[u64],
@@ -194,11 +226,17 @@ fn add_over(
     sign: Sign,
     so_far: Running,
 ) -> Option<Running>
-    requires { ⌜ length (now indexes) + nest ≤ 8 ⌝ ∗ ⌜ 0 < nest ⌝ }
+    requires { ⌜ length (now indexes) + nest ≤ 8 ⌝ }
     ensures { λ r. ⌜ ((c : Option Cond) (l : Lin) → Numbered (now (words .entry)) → Filter-in (now (words .entry)) (over .filter) c → Lin-in (now (words .entry)) (over .body) l → sum-depth l < nest →
         r ≡ run (summand-of (symbols-in (now (words .entry))) (now (indexes .entry)) c (λ js. worked-sum (symbols-in (now (words .entry))) (assignment (now (values .entry))) sign js l))
         (size-of (symbols-in (now (words .entry))) (over .set)) «so_far») ⌝ }
 {
+    if nest == 0 {
+        return None;
+    }
+    if !over_works(words, over) {
+        return Some(so_far);
+    }
     let mut running = so_far;
     for i in 0..set_size(words, over.set) {
         let inner = extended(indexes, i);
@@ -211,8 +249,8 @@ fn add_over(
     Some(running)
 }
 
-// The sum at node k, added to what was there behind a sign. Recursion over terms falls by place,
-// over sums within each other by `nest`.
+// The sum at node k, added to what was there behind a sign. A chain is gone through from its first
+// term on; sums over sets within each other make `nest` fall.
 pub(crate) fn add_sum(
     words: &[u64],
     values: &[u64],
@@ -226,38 +264,26 @@ pub(crate) fn add_sum(
     ensures { λ r. ⌜ ((l : Lin) → Numbered (now (words .entry)) → Lin-in (now (words .entry)) k l → sum-depth l ≤ nest →
         r ≡ worked-sum (symbols-in (now (words .entry))) (assignment (now (values .entry))) sign (now (indexes .entry)) l «so_far») ⌝ }
 {
-    match lin_node(words, k) {
-        LinNode::Amount => {
-            let Some(a) = number(words, indexes, k) else {
-                return None;
-            };
-            add_constant(sign, a, so_far)
-        }
-        LinNode::Term(t) => add_weighted(words, values, indexes, t, sign, so_far),
-        LinNode::Chain(i, inner, j) => {
-            let Some(left) = add_sum(words, values, indexes, nest, i, sign, so_far) else {
-                return None;
-            };
-            add_sum(
-                words,
-                values,
-                indexes,
-                nest,
-                j,
-                sign_under(sign, inner),
-                left,
-            )
-        }
-        LinNode::Sum(over) => {
-            if nest == 0 {
-                return None;
+    let mut at = k;
+    let mut running = so_far;
+    'chain: loop {
+        match lin_node(words, at) {
+            LinNode::Chain(inner, t, rest) => {
+                let under = sign_under(sign, inner);
+                let Some(next) = add_sum(words, values, indexes, nest, t, under, running) else {
+                    return None;
+                };
+                running = next;
+                at = rest;
             }
-            if !works(words, k) {
-                return Some(so_far);
+            LinNode::Nothing => return Some(running),
+            LinNode::Amount => return add_amount(words, indexes, at, sign, running),
+            LinNode::Term(t) => return add_weighted(words, values, indexes, t, sign, running),
+            LinNode::Sum(over) => {
+                return add_over(words, values, indexes, nest, over, sign, running);
             }
-            add_over(words, values, indexes, nest, over, sign, so_far)
+            LinNode::Bad => return None,
         }
-        LinNode::Bad => None,
     }
 }
 

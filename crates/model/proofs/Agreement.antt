@@ -3,12 +3,12 @@ use mathlib.Core.Path.{_≡_, refl, ap, ap₂, subst}
 use mathlib.Core.Bool.{Bool, true, false, cond}
 use mathlib.Core.List.{List, []}
 use Prim.Native.Nat.{ℕ, _<_}
-use lib.IntN.{ℤ, pos, _*ℤ_}
+use lib.IntN.{ℤ, pos, _+ℤ_, _*ℤ_}
 use lib.ListN.{getD}
 use lib.Signed.{_≤ℤ_}
 use Rattle.std.proofs.shelf.Elements.{all-weaker}
 use Rattle.integer.proofs.Sums.{total-same}
-use Rattle.model.specs.Model.{Lin, amount, term, chain, sum-over, Constraint, compare, for-all, Symbols, Model}
+use Rattle.model.specs.Model.{Lin, amount, term, sum-over, chain, nothing, Constraint, compare, for-all, Symbols, Model}
 use Rattle.model.specs.Meaning.{Assignment, number, passes, bound, size-of, variables, present, signed, value, Compares, Meets, Feasible, lowers, uppers, cost}
 use Rattle.model.proofs.Numbering.{variable-below}
 
@@ -26,9 +26,10 @@ unfolding value
 value-same s x y h is (amount e) = refl
 value-same s x y h is (term e k f g) =
     cond-same (present s k (number s is f) (number s is g)) _ _ (λ p. ap (λ z. number s is e *ℤ z) (h _ (variable-below s k (number s is f) (number s is g) p)))
-value-same s x y h is (chain l g t) = ap₂ (signed g) (value-same s x y h is l) (value-same s x y h is t)
 value-same s x y h is (sum-over k c l) =
     total-same _ _ (size-of s k) (λ i _. cond-same (passes s (bound is i) c) _ _ (λ _. value-same s x y h (bound is i) l))
+value-same s x y h is (chain g t l) = ap₂ (λ a b. signed g a +ℤ b) (value-same s x y h is t) (value-same s x y h is l)
+value-same s x y h is nothing = refl
 
 pub cost-same : (m : Model) (x y : Assignment) → Agree (variables (m .symbols .arrays)) x y → cost m x ≡ cost m y
 unfolding cost

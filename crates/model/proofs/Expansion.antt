@@ -15,9 +15,9 @@ use Rattle.integer.specs.Sums.{total}
 use Rattle.integer.proofs.Ring.{neg-mul}
 use Rattle.model.specs.declared.Sign.{Sign}
 use Rattle.model.specs.declared.Sign.the-variants.{Positive, Negative}
-use Rattle.model.specs.Model.{Lin, amount, term, chain, sum-over, Constraint, compare, for-all, Symbols}
+use Rattle.model.specs.Model.{Lin, amount, term, sum-over, chain, nothing, Constraint, compare, for-all, Symbols}
 use Rattle.model.specs.Meaning.{Assignment, number, passes, bound, size-of, present, variable, signed, value, Compares, Meets}
-use Rattle.model.specs.Rows.{Term, Affine, Row, constantly, turned, followed, all-followed, expanded, all-rows, rows, terms-value, affine-value, Row-holds}
+use Rattle.model.specs.Rows.{Term, Affine, Row, constantly, turned, under, followed, all-followed, expanded, all-rows, rows, terms-value, affine-value, Row-holds}
 use Rattle.model.specs.Claims.{Expanded-value, Expanded-rows}
 use Rattle.model.proofs.Comparisons.{moved, moved-back}
 
@@ -31,17 +31,17 @@ unfolding terms-value
 terms-value-turned x [] = refl
 terms-value-turned x (a ∷ t) = let ih = terms-value-turned x t in let n = neg-mul (a .coefficient) (x (a .variable)) in omega (arith, ints)
 
-pub followed-value : (x : Assignment) (g : Sign) (a b : Affine) → affine-value x (followed g a b) ≡ signed g (affine-value x a) (affine-value x b)
-followed-value x Positive a b = let e = terms-value-++ x (a .terms) (b .terms) in omega (arith, ints)
-followed-value x Negative a b =
-    let e = terms-value-++ x (a .terms) (map turned (b .terms)) in
-    let f = terms-value-turned x (b .terms) in
-    omega (arith, ints)
+pub followed-value : (x : Assignment) (a b : Affine) → affine-value x (followed a b) ≡ affine-value x a +ℤ affine-value x b
+followed-value x a b = omega (arith, ints, terms-value-++ x (a .terms) (b .terms))
+
+pub under-value : (x : Assignment) (g : Sign) (a : Affine) → affine-value x (under g a) ≡ signed g (affine-value x a)
+under-value x Positive a = refl
+under-value x Negative a = omega (arith, ints, terms-value-turned x (a .terms))
 
 all-followed-value : (x : Assignment) (f : ℕ → Affine) (v : ℕ → ℤ) → ((i : ℕ) → affine-value x (f i) ≡ v i) → (n : ℕ) → affine-value x (all-followed f n) ≡ total v n
 unfolding all-followed total terms-value
 all-followed-value x f v h zero = refl
-all-followed-value x f v h (suc n) = followed-value x Positive (all-followed f n) (f n) ∙ ap₂ _+ℤ_ (all-followed-value x f v h n) (h n)
+all-followed-value x f v h (suc n) = followed-value x (all-followed f n) (f n) ∙ ap₂ _+ℤ_ (all-followed-value x f v h n) (h n)
 
 cond-value : (x : Assignment) (b : Bool) (a : Affine) (v : ℤ) → affine-value x a ≡ v → affine-value x (cond b a (constantly (pos 0))) ≡ cond b v (pos 0)
 unfolding terms-value
@@ -53,10 +53,12 @@ unfolding expanded value
 expanded-value s x is (amount e) = unfold terms-value in +ℤ-idl (number s is e)
 expanded-value s x is (term e k f g) =
     cond-value x (present s k (number s is f) (number s is g)) _ _ (unfold terms-value in +ℤ-idr _ ∙ +ℤ-idr _)
-expanded-value s x is (chain l g t) =
-    followed-value x g (expanded s is l) (expanded s is t) ∙ ap₂ (signed g) (expanded-value s x is l) (expanded-value s x is t)
 expanded-value s x is (sum-over k c l) =
     all-followed-value x _ _ (λ i. cond-value x (passes s (bound is i) c) _ _ (expanded-value s x (bound is i) l)) (size-of s k)
+expanded-value s x is (chain g t l) =
+    followed-value x (under g (expanded s is t)) (expanded s is l)
+    ∙ ap₂ _+ℤ_ (under-value x g (expanded s is t) ∙ ap (signed g) (expanded-value s x is t)) (expanded-value s x is l)
+expanded-value s x is nothing = unfold terms-value in refl
 
 all-parted : {X : Type 0} (P : X → Type 0) (xs ys : List X) → All P (xs ++ ys) → All P xs × All P ys
 all-parted P [] ys a = (tt, a)
@@ -83,8 +85,10 @@ cond-out : (P : Row → Type 0) (b : Bool) (ls : List Row) → All P (cond b ls 
 cond-out P b ls a e = subst (λ t. All P (cond t ls [])) e a
 
 -- what a row of two sides comes to is the left one less the right one
-pub sides-value : (s : Symbols) (x : Assignment) (is : List ℕ) (l r : Lin) → affine-value x (followed Negative (expanded s is l) (expanded s is r)) ≡ value s x is l -ℤ value s x is r
-sides-value s x is l r = followed-value x Negative (expanded s is l) (expanded s is r) ∙ ap₂ _-ℤ_ (expanded-value s x is l) (expanded-value s x is r)
+pub sides-value : (s : Symbols) (x : Assignment) (is : List ℕ) (l r : Lin) → affine-value x (followed (expanded s is l) (under Negative (expanded s is r))) ≡ value s x is l -ℤ value s x is r
+sides-value s x is l r =
+    followed-value x (expanded s is l) (under Negative (expanded s is r))
+    ∙ ap₂ _+ℤ_ (expanded-value s x is l) (under-value x Negative (expanded s is r) ∙ ap negℤ (expanded-value s x is r))
 
 rows-in : (s : Symbols) (x : Assignment) (is : List ℕ) (c : Constraint) → Meets s x is c → All (Row-holds x) (rows s is c)
 unfolding Meets rows

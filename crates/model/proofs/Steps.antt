@@ -18,9 +18,9 @@ use Rattle.integer.proofs.Sizes.{checked-is}
 use Rattle.model.specs.declared.Sign.{Sign}
 use Rattle.model.specs.declared.Sign.the-variants.{Positive, Negative}
 use Rattle.model.specs.declared.Running.{Running}
-use Rattle.model.specs.Model.{Num, fixed, index, entry, joined, Cond, relate, both, Lin, amount, term, chain, sum-over, Constraint, compare, for-all, Symbols, Model}
+use Rattle.model.specs.Model.{Num, fixed, index, entry, joined, Cond, relate, both, Lin, amount, term, sum-over, chain, nothing, Constraint, compare, for-all, Symbols, Model}
 use Rattle.model.specs.Meaning.{Assignment, number, entry-of, operate, related, holds, passes, bound, size-of, table-of, present, variable, signed, value, Compares, Meets, cost}
-use Rattle.model.specs.Rows.{Term, Affine, constantly, turned, followed, all-followed, expanded, terms-value, affine-value}
+use Rattle.model.specs.Rows.{Term, Affine, constantly, turned, under, followed, all-followed, expanded, terms-value, affine-value}
 use Rattle.model.specs.Evaluation.{then, combined, worked-number, worked-condition, worked-filter, with-constant, with-term, weighted, sign-of, nothing-yet, run, where-so, worked-sum, whole, compared, difference-of, worked-constraint, worked-cost}
 use Rattle.model.specs.Claims.{Worked-out}
 use Rattle.model.proofs.Expansion.{terms-value-++, terms-value-turned, expanded-value}
@@ -70,37 +70,41 @@ worked-filter-is s is (Some c) b h = worked-condition-is s is c b h
 
 -- from one running sum to another an expanded sum was added, or taken away
 abbrev pub Adds : Assignment → Sign → Affine → Running → Running → Type 0
-Adds x g a r q = (q .constant ≡ signed g (r .constant) (a .constant)) × (q .terms ≡ signed g (r .terms) (terms-value x (a .terms)))
+Adds x g a r q = (q .constant ≡ r .constant +ℤ signed g (a .constant)) × (q .terms ≡ r .terms +ℤ signed g (terms-value x (a .terms)))
 
-signed-zero : (g : Sign) (a : ℤ) → a ≡ signed g a (pos 0)
+signed-zero : (g : Sign) (a : ℤ) → a ≡ a +ℤ signed g (pos 0)
 signed-zero Positive a = omega (arith, ints)
 signed-zero Negative a = omega (arith, ints)
 
-signed-twice : (g h : Sign) (a b c : ℤ) → signed (sign-of g h) (signed g a b) c ≡ signed g a (signed h b c)
-signed-twice Positive Positive a b c = omega (arith, ints)
-signed-twice Positive Negative a b c = omega (arith, ints)
-signed-twice Negative Positive a b c = omega (arith, ints)
-signed-twice Negative Negative a b c = omega (arith, ints)
+signed-twice : (g h : Sign) (a : ℤ) → signed (sign-of g h) a ≡ signed g (signed h a)
+signed-twice Positive h a = refl
+signed-twice Negative Positive a = refl
+signed-twice Negative Negative a = omega (arith, ints)
 
-followed-parts : (x : Assignment) (h : Sign) (a b : Affine) → (followed h a b .constant ≡ signed h (a .constant) (b .constant)) × (terms-value x (followed h a b .terms) ≡ signed h (terms-value x (a .terms)) (terms-value x (b .terms)))
-followed-parts x Positive a b = (refl, terms-value-++ x (a .terms) (b .terms))
-followed-parts x Negative a b =
-    (omega (arith, ints), omega (arith, ints, terms-value-++ x (a .terms) (map turned (b .terms)), terms-value-turned x (b .terms)))
+signed-both : (g : Sign) (a b c : ℤ) → (a +ℤ signed g b) +ℤ signed g c ≡ a +ℤ signed g (b +ℤ c)
+signed-both Positive a b c = omega (arith, ints)
+signed-both Negative a b c = omega (arith, ints)
 
-adds-followed : (x : Assignment) (g h : Sign) (a b : Affine) (r p q : Running) → Adds x g a r p → Adds x (sign-of g h) b p q → Adds x g (followed h a b) r q
-adds-followed x g h a b r p q (i, j) (k, l) =
-    let e = followed-parts x h a b in (
-      k ∙ ap (λ z. signed (sign-of g h) z (b .constant)) i ∙ signed-twice g h (r .constant) (a .constant) (b .constant) ∙ ap (signed g (r .constant)) (sym (e .0)),
-      l ∙ ap (λ z. signed (sign-of g h) z (terms-value x (b .terms))) j ∙ signed-twice g h (r .terms) (terms-value x (a .terms)) (terms-value x (b .terms)) ∙ ap (signed g (r .terms)) (sym (e .1)),
+under-parts : (x : Assignment) (h : Sign) (a : Affine) → (under h a .constant ≡ signed h (a .constant)) × (terms-value x (under h a .terms) ≡ signed h (terms-value x (a .terms)))
+under-parts x Positive a = (refl, refl)
+under-parts x Negative a = (refl, terms-value-turned x (a .terms))
+
+adds-under : (x : Assignment) (g h : Sign) (a : Affine) (r q : Running) → Adds x (sign-of g h) a r q → Adds x g (under h a) r q
+adds-under x g h a r q (i, j) =
+    let e = under-parts x h a in (
+      i ∙ ap (λ z. r .constant +ℤ z) (signed-twice g h (a .constant) ∙ ap (signed g) (sym (e .0))),
+      j ∙ ap (λ z. r .terms +ℤ z) (signed-twice g h (terms-value x (a .terms)) ∙ ap (signed g) (sym (e .1))),
     )
+
+adds-followed : (x : Assignment) (g : Sign) (a b : Affine) (r p q : Running) → Adds x g a r p → Adds x g b p q → Adds x g (followed a b) r q
+adds-followed x g a b r p q (i, j) (k, l) = (
+  k ∙ ap (λ z. z +ℤ signed g (b .constant)) i ∙ signed-both g (r .constant) (a .constant) (b .constant),
+  l ∙ ap (λ z. z +ℤ signed g (terms-value x (b .terms))) j ∙ signed-both g (r .terms) (terms-value x (a .terms)) (terms-value x (b .terms)) ∙ ap (λ z. r .terms +ℤ signed g z) (sym (terms-value-++ x (a .terms) (b .terms))),
+)
 
 adds-nothing : (x : Assignment) (g : Sign) (r : Running) → Adds x g (constantly (pos 0)) r r
 unfolding terms-value
 adds-nothing x g r = (signed-zero g (r .constant), signed-zero g (r .terms))
-
-positive-under : (g : Sign) → sign-of g Positive ≡ g
-positive-under Positive = refl
-positive-under Negative = refl
 
 adds-all : (x : Assignment) (g : Sign) (f : ℕ → Running → Option Running) (a : ℕ → Affine) → ((i : ℕ) (r q : Running) → f i r ≡ Some q → Adds x g (a i) r q)
     → (n : ℕ) (r q : Running) → run f n r ≡ Some q → Adds x g (all-followed a n) r q
@@ -108,7 +112,7 @@ unfolding run all-followed
 adds-all x g f a h zero r q e = subst (Adds x g (constantly (pos 0)) r) (same-some r q e) (adds-nothing x g r)
 adds-all x g f a h (suc n) r q e =
     let (p, i, k) = then-some (run f n r) (f n) q e in
-    adds-followed x g Positive (all-followed a n) (a n) r p q (adds-all x g f a h n r p i) (subst (λ t. Adds x t (a n) p q) (sym (positive-under g)) (h n p q k))
+    adds-followed x g (all-followed a n) (a n) r p q (adds-all x g f a h n r p i) (h n p q k)
 
 adds-where : (x : Assignment) (g : Sign) (o : Option Bool) (b : Bool) (w : Option Running) (a : Affine) (r q : Running)
     → ((t : Bool) → o ≡ Some t → t ≡ b) → (w ≡ Some q → Adds x g a r q) → where-so o w (Some r) ≡ Some q → Adds x g (cond b a (constantly (pos 0))) r q
@@ -123,18 +127,18 @@ adds-where x g o b w a r q h k e =
 constant-adds : (x : Assignment) (g : Sign) (a : ℤ) (r q : Running) → with-constant g a r ≡ Some q → Adds x g (constantly a) r q
 unfolding terms-value
 constant-adds x g a r q e =
-    let (z, i, k) = then-some (checked (signed g (r .constant) a)) (λ z. Some (record { constant = z; terms = r .terms })) q e in
+    let (z, i, k) = then-some (checked (r .constant +ℤ signed g a)) (λ z. Some (record { constant = z; terms = r .terms })) q e in
     let s = same-some (record { constant = z; terms = r .terms }) q k in
-    (sym (ap (λ (t : Running). t .constant) s) ∙ checked-is (signed g (r .constant) a) z i, sym (ap (λ (t : Running). t .terms) s) ∙ signed-zero g (r .terms))
+    (sym (ap (λ (t : Running). t .constant) s) ∙ checked-is (r .constant +ℤ signed g a) z i, sym (ap (λ (t : Running). t .terms) s) ∙ signed-zero g (r .terms))
 
 term-adds : (x : Assignment) (g : Sign) (a : ℤ) (u : ℕ) (r q : Running) → with-term g a (x u) r ≡ Some q → Adds x g (record { terms = record { coefficient = a; variable = u } ∷ []; constant = pos 0 }) r q
 unfolding terms-value
 term-adds x g a u r q e =
-    let (p, i, k) = then-some (checked (a *ℤ x u)) (λ p. then (checked (signed g (r .terms) p)) (λ z. Some (record { constant = r .constant; terms = z }))) q e in
-    let (z, j, l) = then-some (checked (signed g (r .terms) p)) (λ z. Some (record { constant = r .constant; terms = z })) q k in
+    let (p, i, k) = then-some (checked (a *ℤ x u)) (λ p. then (checked (r .terms +ℤ signed g p)) (λ z. Some (record { constant = r .constant; terms = z }))) q e in
+    let (z, j, l) = then-some (checked (r .terms +ℤ signed g p)) (λ z. Some (record { constant = r .constant; terms = z })) q k in
     let s = same-some (record { constant = r .constant; terms = z }) q l in (
       sym (ap (λ (t : Running). t .constant) s) ∙ signed-zero g (r .constant),
-      sym (ap (λ (t : Running). t .terms) s) ∙ checked-is (signed g (r .terms) p) z j ∙ ap (signed g (r .terms)) (checked-is (a *ℤ x u) p i ∙ sym (+ℤ-idr (a *ℤ x u))),
+      sym (ap (λ (t : Running). t .terms) s) ∙ checked-is (r .terms +ℤ signed g p) z j ∙ ap (λ v. r .terms +ℤ signed g v) (checked-is (a *ℤ x u) p i ∙ sym (+ℤ-idr (a *ℤ x u))),
     )
 
 pub worked-sum-adds : (s : Symbols) (x : Assignment) (g : Sign) (is : List ℕ) (l : Lin) (r q : Running) → worked-sum s x g is l r ≡ Some q → Adds x g (expanded s is l) r q
@@ -159,14 +163,15 @@ worked-sum-adds s x g is (term e n f h) r q w =
         let (a, b, c) = then-some (worked-number s is e) (λ a. with-term g a (x (variable s n i j)) r) q k in
         subst (λ z. Adds x g (record { terms = record { coefficient = z; variable = variable s n i j } ∷ []; constant = pos 0 }) r q) (worked-number-is s is e a b) (term-adds x g a (variable s n i j) r q c)
     parts i j false k = subst (Adds x g (constantly (pos 0)) r) (same-some r q k) (adds-nothing x g r)
-worked-sum-adds s x g is (chain l h t) r q w =
-    let (p, i, k) = then-some (worked-sum s x g is l r) (worked-sum s x (sign-of g h) is t) q w in
-    adds-followed x g h (expanded s is l) (expanded s is t) r p q (worked-sum-adds s x g is l r p i) (worked-sum-adds s x (sign-of g h) is t p q k)
 worked-sum-adds s x g is (sum-over n c l) r q w =
     adds-all x g _ _ (λ i a b e.
     adds-where x g (worked-filter s (bound is i) c) (passes s (bound is i) c) (worked-sum s x g (bound is i) l a) (expanded s (bound is i) l) a b
     (worked-filter-is s (bound is i) c) (worked-sum-adds s x g (bound is i) l a b) e)
     (size-of s n) r q w
+worked-sum-adds s x g is (chain h t l) r q w =
+    let (p, i, k) = then-some (worked-sum s x (sign-of g h) is t r) (worked-sum s x g is l) q w in
+    adds-followed x g (under h (expanded s is t)) (expanded s is l) r p q (adds-under x g h (expanded s is t) r p (worked-sum-adds s x (sign-of g h) is t r p i)) (worked-sum-adds s x g is l p q k)
+worked-sum-adds s x g is nothing r q w = subst (Adds x g (constantly (pos 0)) r) (same-some r q w) (adds-nothing x g r)
 
 -- a test tells whether something is so
 abbrev pub Tells : Bool → Type 0 → Type 0

@@ -14,10 +14,10 @@ use Rattle.model.specs.declared.NumNode.the-variants.{Fixed, Index, Entry, Op,
 use Rattle.model.specs.declared.CondNode.{CondNode}
 use Rattle.model.specs.declared.CondNode.the-variants.{Relate, Both, Bad as no-cond}
 use Rattle.model.specs.declared.LinNode.{LinNode}
-use Rattle.model.specs.declared.LinNode.the-variants.{Amount, Term, Chain, Sum, Bad as no-lin}
+use Rattle.model.specs.declared.LinNode.the-variants.{Amount, Term, Sum, Chain, Nothing, Bad as no-lin}
 use Rattle.model.specs.declared.ConstraintNode.{ConstraintNode}
 use Rattle.model.specs.declared.ConstraintNode.the-variants.{Compare, All, Bad as no-constraint}
-use Rattle.model.specs.Model.{Num, fixed, index, entry, joined, Cond, relate, both, Lin, amount, term, chain, sum-over, Constraint, compare, for-all, Symbols, Model}
+use Rattle.model.specs.Model.{Num, fixed, index, entry, joined, Cond, relate, both, Lin, amount, term, sum-over, chain, nothing, Constraint, compare, for-all, Symbols, Model}
 use Rattle.model.specs.Words.{num-at, cond-at, lin-at, constraint-at, constraint-count, constraint-place, objective-place}
 use Rattle.model.specs.Kept.{Num-in, Cond-in, Filter-in, Lin-in, Constraint-in, Constraints-in, Keeps, symbols-in}
 use Rattle.model.specs.Claims.{One-model}
@@ -51,7 +51,8 @@ cond-fit ws k h (both c d) (i, j, p, q, s) = subst (λ n. Cond-fit ws n (both c 
 abbrev pub Lin-fit : List ℕ → ℕ → LinNode → Lin → Type 0
 Lin-fit ws k Amount l = (e : Num) × (l ≡ amount e) × Num-in ws k e
 Lin-fit ws k (Term t) l = (e : Num) × (f : Num) × (g : Num) × (l ≡ term e (t .array) f g) × Num-in ws (t .number) e × Num-in ws (t .row) f × Num-in ws (t .column) g
-Lin-fit ws k (Chain i g j) l = (a : Lin) × (b : Lin) × (l ≡ chain a g b) × Lin-in ws i a × Lin-in ws j b
+Lin-fit ws k (Chain g i j) l = (a : Lin) × (b : Lin) × (l ≡ chain g a b) × Lin-in ws i a × Lin-in ws j b
+Lin-fit ws k Nothing l = l ≡ nothing
 Lin-fit ws k (Sum o) l = (c : Option Cond) × (a : Lin) × (l ≡ sum-over (o .set) c a) × Filter-in ws (o .filter) c × Lin-in ws (o .body) a
 Lin-fit ws k no-lin l = ⊥
 
@@ -59,8 +60,9 @@ pub lin-fit : {n : LinNode} (ws : List ℕ) (k : ℕ) → n ≡ lin-at ws k → 
 unfolding Lin-in
 lin-fit ws k h (amount e) (p, q) = subst (λ n. Lin-fit ws k n (amount e)) (sym (h ∙ p)) (e, refl, q)
 lin-fit ws k h (term e n f g) (t, p, a, q, r, s) = subst (λ x. Lin-fit ws k x (term e n f g)) (sym (h ∙ p)) (e, f, g, ap (λ m. term e m f g) (sym a), q, r, s)
-lin-fit ws k h (chain l g t) (i, j, p, q, r) = subst (λ n. Lin-fit ws k n (chain l g t)) (sym (h ∙ p)) (l, t, refl, q, r)
 lin-fit ws k h (sum-over n c l) (o, p, a, q, r) = subst (λ x. Lin-fit ws k x (sum-over n c l)) (sym (h ∙ p)) (c, l, ap (λ m. sum-over m c l) (sym a), q, r)
+lin-fit ws k h (chain g t l) (i, j, p, q, r) = subst (λ n. Lin-fit ws k n (chain g t l)) (sym (h ∙ p)) (t, l, refl, q, r)
+lin-fit ws k h nothing p = subst (λ n. Lin-fit ws k n nothing) (sym (h ∙ p)) refl
 
 abbrev pub Constraint-fit : List ℕ → ConstraintNode → Constraint → Type 0
 Constraint-fit ws (Compare c i j) r = (a : Lin) × (b : Lin) × (r ≡ compare c a b) × Lin-in ws i a × Lin-in ws j b
@@ -73,8 +75,8 @@ constraint-fit ws k h (compare c l r) (i, j, p, q, s) = subst (λ n. Constraint-
 constraint-fit ws k h (for-all n c r) (o, p, a, q, s) = subst (λ x. Constraint-fit ws x (for-all n c r)) (sym (h ∙ p)) (c, r, ap (λ m. for-all m c r) (sym a), q, s)
 
 -- the parts of a chain stand before it
-pub chain-below : (ws : List ℕ) (k i : ℕ) (g : Sign) (j : ℕ) → Chain i g j ≡ lin-at ws k → (i < k) × (j < k)
-chain-below ws k i g j h = grind (arith, tells)
+pub chain-below : (ws : List ℕ) (k : ℕ) (g : Sign) (i j : ℕ) → Chain g i j ≡ lin-at ws k → (i < k) × (j < k)
+chain-below ws k g i j h = grind (arith, tells)
 
 -- a node stands for one tree at most
 
@@ -113,12 +115,13 @@ one-lin ws k (amount e) m (n, p) q = let (x, z, u) = lin-fit ws k (sym n) m q in
 one-lin ws k (term e a f g) m (h, n, o, p, q, r) s =
     let (x, y, w, z, t, u, v) = lin-fit ws k (sym n) m s in
     ap₂ (λ c b. term c b f g) (one-num ws (h .number) e x p t) (sym o) ∙ ap₂ (term x (h .array)) (one-num ws (h .row) f y q u) (one-num ws (h .column) g w r v) ∙ sym z
-one-lin ws k (chain l g t) m (i, j, n, p, q) s =
-    let (x, y, z, u, v) = lin-fit ws k (sym n) m s in
-    ap₂ (λ a b. chain a g b) (one-lin ws i l x p u) (one-lin ws j t y q v) ∙ sym z
 one-lin ws k (sum-over a c l) m (o, n, b, p, q) s =
     let (x, y, z, u, v) = lin-fit ws k (sym n) m s in
     ap (λ d. sum-over d c l) (sym b) ∙ ap₂ (sum-over (o .set)) (one-filter ws (o .filter) c x p u) (one-lin ws (o .body) l y q v) ∙ sym z
+one-lin ws k (chain g t l) m (i, j, n, p, q) s =
+    let (x, y, z, u, v) = lin-fit ws k (sym n) m s in
+    ap₂ (chain g) (one-lin ws i t x p u) (one-lin ws j l y q v) ∙ sym z
+one-lin ws k nothing m n s = sym (lin-fit ws k (sym n) m s)
 
 pub one-constraint : (ws : List ℕ) (k : ℕ) (r s : Constraint) → Constraint-in ws k r → Constraint-in ws k s → r ≡ s
 unfolding Constraint-in

@@ -15,7 +15,7 @@ use Rattle.model.specs.declared.Comparison.the-variants.{AtMost, AtLeast, Exac
 use Rattle.model.specs.declared.Sign.{Sign}
 use Rattle.model.specs.declared.Sign.the-variants.{Positive, Negative}
 use Rattle.model.specs.declared.Running.{Running}
-use Rattle.model.specs.Model.{Num, fixed, index, entry, joined, Cond, relate, both, Lin, amount, term, chain, sum-over, Constraint, compare, for-all, Symbols, Model}
+use Rattle.model.specs.Model.{Num, fixed, index, entry, joined, Cond, relate, both, Lin, amount, term, sum-over, chain, nothing, Constraint, compare, for-all, Symbols, Model}
 use Rattle.model.specs.Meaning.{Assignment, entry-of, operate, related, is-same, bound, size-of, table-of, present, variable, signed}
 
 -- go on with a result, where there is one
@@ -46,10 +46,10 @@ abbrev pub nothing-yet : Running
 nothing-yet = record { constant = pos 0; terms = pos 0 }
 
 abbrev pub with-constant : Sign → ℤ → Running → Option Running
-with-constant g a r = then (checked (signed g (r .constant) a)) (λ z. Some (record { constant = z; terms = r .terms }))
+with-constant g a r = then (checked (r .constant +ℤ signed g a)) (λ z. Some (record { constant = z; terms = r .terms }))
 
 abbrev pub with-term : Sign → ℤ → ℤ → Running → Option Running
-with-term g a v r = then (checked (a *ℤ v)) (λ p. then (checked (signed g (r .terms) p)) (λ z. Some (record { constant = r .constant; terms = z })))
+with-term g a v r = then (checked (a *ℤ v)) (λ p. then (checked (r .terms +ℤ signed g p)) (λ z. Some (record { constant = r .constant; terms = z })))
 
 -- a number times a variable of array k in a row and a column; where the variable is not there the number does not count
 unfoldable pub weighted : Symbols → Assignment → Sign → ℕ → Option ℤ → Option ℤ → Option ℤ → Running → Option Running
@@ -81,8 +81,9 @@ instance s is c body i met = cond met (where-so (worked-filter s (bound is i) c)
 unfoldable pub worked-sum : Symbols → Assignment → Sign → List ℕ → Lin → Running → Option Running
 worked-sum s x g is (amount e) r = then (worked-number s is e) (λ a. with-constant g a r)
 worked-sum s x g is (term e k f h) r = weighted s x g k (worked-number s is e) (worked-number s is f) (worked-number s is h) r
-worked-sum s x g is (chain l h t) r = then (worked-sum s x g is l r) (worked-sum s x (sign-of g h) is t)
 worked-sum s x g is (sum-over k c l) r = run (summand s is c (λ js. worked-sum s x g js l)) (size-of s k) r
+worked-sum s x g is (chain h t l) r = then (worked-sum s x (sign-of g h) is t r) (worked-sum s x g is l)
+worked-sum s x g is nothing r = Some r
 
 abbrev pub whole : Running → Option ℤ
 whole r = checked (r .constant +ℤ r .terms)
@@ -112,8 +113,9 @@ worked-cost m x = worked-value (m .symbols) x [] (m .objective)
 unfoldable pub sum-works : Symbols → Lin → Bool
 sum-works s (amount e) = true
 sum-works s (term e k f h) = true
-sum-works s (chain l h t) = sum-works s l || sum-works s t
 sum-works s (sum-over k c l) = ltb 0 (size-of s k) && (isSome c || sum-works s l)
+sum-works s (chain h t l) = sum-works s t || sum-works s l
+sum-works s nothing = false
 
 unfoldable pub constraint-works : Symbols → Constraint → Bool
 constraint-works s (compare c l r) = true

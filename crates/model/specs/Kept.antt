@@ -12,9 +12,9 @@ use Rattle.model.specs.declared.TermNode.{TermNode}
 use Rattle.model.specs.declared.Over.{Over}
 use Rattle.model.specs.declared.NumNode.the-variants.{Fixed, Index, Entry, Op}
 use Rattle.model.specs.declared.CondNode.the-variants.{Relate, Both}
-use Rattle.model.specs.declared.LinNode.the-variants.{Amount, Term, Chain, Sum}
+use Rattle.model.specs.declared.LinNode.the-variants.{Amount, Term, Sum, Chain, Nothing}
 use Rattle.model.specs.declared.ConstraintNode.the-variants.{Compare, All}
-use Rattle.model.specs.Model.{Num, fixed, index, entry, joined, Cond, relate, both, Lin, amount, term, chain, sum-over, Constraint, compare, for-all, Table, Array, Symbols, Model}
+use Rattle.model.specs.Model.{Num, fixed, index, entry, joined, Cond, relate, both, Lin, amount, term, sum-over, chain, nothing, Constraint, compare, for-all, Table, Array, Symbols, Model}
 use Rattle.model.specs.Meaning.{Assignment, first}
 use Rattle.model.specs.Words.{word, num-at, cond-at, lin-at, constraint-at, set-count, table-count, array-count, constraint-count, set-size, table-rows, table-columns, table-start, array-rows, array-columns, array-lower, array-upper, array-first, constraint-place, objective-place}
 
@@ -56,8 +56,9 @@ Filter-in ws (Some k) (Some c) = Cond-in ws k c
 unfoldable pub Lin-in : List ℕ → ℕ → Lin → Type 0
 Lin-in ws k (amount e) = (lin-at ws k ≡ Amount) × Num-in ws k e
 Lin-in ws k (term e n f g) = (t : TermNode) × (lin-at ws k ≡ Term t) × (t .array ≡ n) × Num-in ws (t .number) e × Num-in ws (t .row) f × Num-in ws (t .column) g
-Lin-in ws k (chain l g t) = (i : ℕ) × (j : ℕ) × (lin-at ws k ≡ Chain i g j) × Lin-in ws i l × Lin-in ws j t
 Lin-in ws k (sum-over n c l) = (o : Over) × (lin-at ws k ≡ Sum o) × (o .set ≡ n) × Filter-in ws (o .filter) c × Lin-in ws (o .body) l
+Lin-in ws k (chain g t l) = (i : ℕ) × (j : ℕ) × (lin-at ws k ≡ Chain g i j) × Lin-in ws i t × Lin-in ws j l
+Lin-in ws k nothing = lin-at ws k ≡ Nothing
 
 unfoldable pub Constraint-in : List ℕ → ℕ → Constraint → Type 0
 Constraint-in ws k (compare c l r) = (i : ℕ) × (j : ℕ) × (constraint-at ws k ≡ Compare c i j) × Lin-in ws i l × Lin-in ws j r
@@ -72,8 +73,9 @@ Constraints-in ws k (c ∷ cs) = (k < constraint-count ws) × Constraint-in ws (
 unfoldable pub sum-depth : Lin → ℕ
 sum-depth (amount e) = 0
 sum-depth (term e n f g) = 0
-sum-depth (chain l g t) = max (sum-depth l) (sum-depth t)
 sum-depth (sum-over n c l) = suc (sum-depth l)
+sum-depth (chain g t l) = max (sum-depth t) (sum-depth l)
+sum-depth nothing = 0
 
 unfoldable pub depth : Constraint → ℕ
 depth (compare c l r) = max (sum-depth l) (sum-depth r)

@@ -4,7 +4,7 @@ use mathlib.Core.Bool.{Bool, true, false, _&&_, not, cond}
 use mathlib.Core.List.{List, [], _∷_, _++_}
 use Prim.Native.Nat.{ℕ, zero, suc, _+_, _*_, _^_, _<_}
 use lib.Dec.{ltb}
-use lib.IntN.{ℤ, pos, negsuc, natAbs, _+ℤ_, _-ℤ_, _*ℤ_}
+use lib.IntN.{ℤ, pos, negsuc, natAbs, negℤ, _+ℤ_, _-ℤ_, _*ℤ_}
 use lib.ListN.{getD, replicate}
 use lib.Signed.{ltZ, leZ, _≤ℤ_}
 use Rattle.std.specs.declared.option.Option.{Option}
@@ -19,7 +19,7 @@ use Rattle.model.specs.declared.Comparison.{Comparison}
 use Rattle.model.specs.declared.Comparison.the-variants.{AtMost, AtLeast, Exactly}
 use Rattle.model.specs.declared.Sign.{Sign}
 use Rattle.model.specs.declared.Sign.the-variants.{Positive, Negative}
-use Rattle.model.specs.Model.{Num, fixed, index, entry, joined, Cond, relate, both, Lin, amount, term, chain, sum-over, Constraint, compare, for-all, Table, Array, Symbols, Model}
+use Rattle.model.specs.Model.{Num, fixed, index, entry, joined, Cond, relate, both, Lin, amount, term, sum-over, chain, nothing, Constraint, compare, for-all, Table, Array, Symbols, Model}
 
 -- a number for each variable, by the variable's number
 abbrev pub Assignment : Type 0
@@ -105,17 +105,18 @@ present s k i j = inside (array-of s k .rows) (array-of s k .columns) i j
 abbrev pub variable : Symbols → ℕ → ℤ → ℤ → ℕ
 variable s k i j = first (s .arrays) k + place (array-of s k .columns) i j
 
-abbrev pub signed : Sign → ℤ → ℤ → ℤ
-signed Positive a b = a +ℤ b
-signed Negative a b = a -ℤ b
+abbrev pub signed : Sign → ℤ → ℤ
+signed Positive a = a
+signed Negative a = negℤ a
 
 -- what a linear sum comes to; a variable beyond its array counts for nothing
 unfoldable pub value : Symbols → Assignment → List ℕ → Lin → ℤ
 value s x is (amount e) = number s is e
 value s x is (term e k f g) =
     cond (present s k (number s is f) (number s is g)) (number s is e *ℤ x (variable s k (number s is f) (number s is g))) (pos 0)
-value s x is (chain l g t) = signed g (value s x is l) (value s x is t)
 value s x is (sum-over k c l) = total (λ i. cond (passes s (bound is i) c) (value s x (bound is i) l) (pos 0)) (size-of s k)
+value s x is (chain g t l) = signed g (value s x is t) +ℤ value s x is l
+value s x is nothing = pos 0
 
 abbrev pub Compares : Comparison → ℤ → ℤ → Type 0
 Compares AtMost a b = a ≤ℤ b

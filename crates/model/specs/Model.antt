@@ -20,12 +20,13 @@ pub data Cond : Type 0 where
   relate : Relation → Num → Num → Cond
   both : Cond → Cond → Cond
 
--- a linear sum: a number; a number times a variable of an array, by row and column; a sum and one term more, with its sign; a sum over a set, where a condition holds
+-- a linear sum: a number; a number times a variable of an array, by row and column; a sum over a set, where a condition holds; a term with its sign, and what follows it; nothing
 pub data Lin : Type 0 where
   amount : Num → Lin
   term : Num → ℕ → Num → Num → Lin
-  chain : Lin → Sign → Lin → Lin
   sum-over : ℕ → Option Cond → Lin → Lin
+  chain : Sign → Lin → Lin → Lin
+  nothing : Lin
 
 -- a constraint: two sides compared; a constraint for all of a set, where a condition holds
 pub data Constraint : Type 0 where

@@ -8,7 +8,7 @@ use Rattle.std.specs.declared.option.Option.{Option}
 use Rattle.model.specs.declared.Comparison.{Comparison}
 use Rattle.model.specs.declared.Sign.{Sign}
 use Rattle.model.specs.declared.Sign.the-variants.{Positive, Negative}
-use Rattle.model.specs.Model.{Lin, amount, term, chain, sum-over, Constraint, compare, for-all, Symbols}
+use Rattle.model.specs.Model.{Lin, amount, term, sum-over, chain, nothing, Constraint, compare, for-all, Symbols}
 use Rattle.model.specs.Meaning.{Assignment, number, passes, bound, size-of, present, variable, Compares}
 
 -- a coefficient before a variable, by the variable's number
@@ -32,14 +32,18 @@ constantly a = record { terms = []; constant = a }
 abbrev pub turned : Term → Term
 turned t = record { coefficient = negℤ (t .coefficient); variable = t .variable }
 
--- one form and another behind it, added or taken away
-abbrev pub followed : Sign → Affine → Affine → Affine
-followed Positive a b = record { terms = a .terms ++ b .terms; constant = a .constant +ℤ b .constant }
-followed Negative a b = record { terms = a .terms ++ map turned (b .terms); constant = a .constant +ℤ negℤ (b .constant) }
+-- a form behind a sign
+abbrev pub under : Sign → Affine → Affine
+under Positive a = a
+under Negative a = record { terms = map turned (a .terms); constant = negℤ (a .constant) }
+
+-- one form and another behind it
+abbrev pub followed : Affine → Affine → Affine
+followed a b = record { terms = a .terms ++ b .terms; constant = a .constant +ℤ b .constant }
 
 unfoldable pub all-followed : (ℕ → Affine) → ℕ → Affine
 all-followed f zero = constantly (pos 0)
-all-followed f (suc n) = followed Positive (all-followed f n) (f n)
+all-followed f (suc n) = followed (all-followed f n) (f n)
 
 -- a linear sum, expanded: a variable beyond its array is left out
 unfoldable pub expanded : Symbols → List ℕ → Lin → Affine
@@ -48,8 +52,9 @@ expanded s is (term e k f g) =
     cond (present s k (number s is f) (number s is g))
     (record { terms = record { coefficient = number s is e; variable = variable s k (number s is f) (number s is g) } ∷ []; constant = pos 0 })
     (constantly (pos 0))
-expanded s is (chain l g t) = followed g (expanded s is l) (expanded s is t)
 expanded s is (sum-over k c l) = all-followed (λ i. cond (passes s (bound is i) c) (expanded s (bound is i) l) (constantly (pos 0))) (size-of s k)
+expanded s is (chain g t l) = followed (under g (expanded s is t)) (expanded s is l)
+expanded s is nothing = constantly (pos 0)
 
 unfoldable pub all-rows : (ℕ → List Row) → ℕ → List Row
 all-rows f zero = []
@@ -57,7 +62,7 @@ all-rows f (suc n) = all-rows f n ++ f n
 
 -- the rows of a constraint: the right side is brought to the left
 unfoldable pub rows : Symbols → List ℕ → Constraint → List Row
-rows s is (compare c l r) = record { comparison = c; form = followed Negative (expanded s is l) (expanded s is r) } ∷ []
+rows s is (compare c l r) = record { comparison = c; form = followed (expanded s is l) (under Negative (expanded s is r)) } ∷ []
 rows s is (for-all k c r) = all-rows (λ i. cond (passes s (bound is i) c) (rows s (bound is i) r) []) (size-of s k)
 
 unfoldable pub terms-value : Assignment → List Term → ℤ

@@ -20,7 +20,7 @@ use Rattle.model.specs.declared.NumNode.the-variants.{Fixed, Index, Entry, Op,
 use Rattle.model.specs.declared.CondNode.{CondNode}
 use Rattle.model.specs.declared.CondNode.the-variants.{Relate, Both, Bad as no-cond}
 use Rattle.model.specs.declared.LinNode.{LinNode}
-use Rattle.model.specs.declared.LinNode.the-variants.{Amount, Term, Chain, Sum, Bad as no-lin}
+use Rattle.model.specs.declared.LinNode.the-variants.{Amount, Term, Sum, Chain, Nothing, Bad as no-lin}
 use Rattle.model.specs.declared.Line.{Line}
 use Rattle.model.specs.declared.Line.the-variants.{Set, Table, Variables, Objective, Constraint, Bad as no-line}
 use Rattle.model.specs.declared.ConstraintNode.{ConstraintNode}
@@ -57,12 +57,13 @@ abbrev pub lin-of : ℕ → ℕ → ℕ → ℕ → ℕ → ℕ → LinNode
 lin-of k t a b c d =
     cond (leb 1 t && leb t 6) Amount
     (cond (eqb t 11) (cond (ltb a k && ltb c k && ltb d k) (Term (record { number = a; array = b; row = c; column = d })) no-lin)
-    (cond (eqb t 12) (cond (ltb a k && ltb b k) (Chain a Positive b) no-lin)
-    (cond (eqb t 13) (cond (ltb a k && ltb b k) (Chain a Negative b) no-lin)
+    (cond (eqb t 12) (cond (ltb a k && ltb b k) (Chain Positive a b) no-lin)
+    (cond (eqb t 13) (cond (ltb a k && ltb b k) (Chain Negative a b) no-lin)
     (cond (eqb t 14) (cond (ltb b k && ltb c k) (Sum (over-of a b c)) no-lin) no-lin))))
 
+-- at place 0, where no node ever is, there is nothing
 abbrev pub lin-at : List ℕ → ℕ → LinNode
-lin-at ws k = cond (leb (k + 5) (length ws)) (lin-of k (word ws k) (word ws (k + 1)) (word ws (k + 2)) (word ws (k + 3)) (word ws (k + 4))) no-lin
+lin-at ws k = cond (eqb k 0) Nothing (cond (leb (k + 5) (length ws)) (lin-of k (word ws k) (word ws (k + 1)) (word ws (k + 2)) (word ws (k + 3)) (word ws (k + 4))) no-lin)
 
 abbrev pub constraint-of : ℕ → ℕ → ℕ → ℕ → ℕ → ConstraintNode
 constraint-of k t a b c =

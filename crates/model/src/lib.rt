@@ -71,14 +71,15 @@ pub struct Over {
     pub body: usize,
 }
 
-// A node of a linear sum: a number by itself, a number times a variable, a sum and one term more,
-// a sum over a set.
+// A node of a linear sum: a number by itself, a number times a variable, a sum over a set; a term
+// with its sign, and what follows it.
 #[derive(Clone, Copy)]
 pub enum LinNode {
     Amount,
     Term(TermNode),
-    Chain(usize, Sign, usize),
     Sum(Over),
+    Chain(Sign, usize, usize),
+    Nothing,
     Bad,
 }
 

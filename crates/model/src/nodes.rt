@@ -6,16 +6,17 @@
 // four words more.
 //
 //     1 Fixed number          7 Less number number      11 Term number array number number
-//     2 Index level           8 Equal number number     12 Chain sum term (added)
-//     3 Entry table row col   9 Differ number number    13 Chain sum term (taken away)
+//     2 Index level           8 Equal number number     12 Chain term rest (added)
+//     3 Entry table row col   9 Differ number number    13 Chain term rest (taken away)
 //     4 Plus number number   10 Both cond cond          14 Sum set cond sum
 //     5 Minus number number                             15 AtMost sum sum
 //     6 Times number number                             16 AtLeast sum sum
 //                                                       17 Exactly sum sum
 //                                                       18 All set cond constraint
 //
-// A number that stands where a sum is wanted is a sum of that number alone. A condition at place 0,
-// where no node ever is, says that there is none.
+// A number that stands where a sum is wanted is a sum of that number alone. No node is ever at place
+// 0: a condition there is none, and a sum there is nothing, the end of a chain. A chain goes from
+// its first term to its last, so that it can be gone through in a loop.
 ghost use Prim.Native.Nat.{_+_};
 ghost use Rattle.model.specs.Words.{num-at, cond-at, lin-at, constraint-at, over-of};
 ghost use lib.Dec.{leb};
@@ -100,6 +101,9 @@ fn over(set: u64, filter: u64, body: u64) -> Over
 pub fn lin_node(words: &[u64], k: usize) -> LinNode
     ensures { λ r. ⌜ r ≡ lin-at (now (words .entry)) k ⌝ }
 {
+    if k == 0 {
+        return LinNode::Nothing;
+    }
     if !has_room(words.len(), k) {
         return LinNode::Bad;
     }
@@ -115,8 +119,8 @@ pub fn lin_node(words: &[u64], k: usize) -> LinNode
                 column: d as usize,
             })
         }
-        12 if a < here && b < here => LinNode::Chain(a as usize, Sign::Positive, b as usize),
-        13 if a < here && b < here => LinNode::Chain(a as usize, Sign::Negative, b as usize),
+        12 if a < here && b < here => LinNode::Chain(Sign::Positive, a as usize, b as usize),
+        13 if a < here && b < here => LinNode::Chain(Sign::Negative, a as usize, b as usize),
         14 if b < here && c < here => LinNode::Sum(over(a, b, c)),
         _ => LinNode::Bad,
     }

@@ -1,19 +1,25 @@
 use Prim.Native.Nat.{ℕ, _+_, _-_, _<_, _≤_}
 use mathlib.Core.Path.{_≡_, refl, sym, ap, _∙_}
 use native.Mathlib.Omega.{arith}
-use borrow.Author.Needs.{needs}
 use lib.ListN.{length, take}
-use mir.Syntax.{w64}
-use mir.Val.{SFits}
 use Rattle.std.specs.declared.option.Option.the-variants.{Some, None}
-use Rattle.std.proofs.shelf.Signed.{toZ-ofZ}
-use Rattle.model.specs.Evaluation.{then, run, sign-of, summand, where-so, with-constant, worked-filter, worked-sum}
+use Rattle.model.specs.Evaluation.{then, run, sign-of, sum-works, summand, where-so, worked-filter, worked-sum}
 use Rattle.model.specs.Kept.{assignment, sum-depth, symbols-in}
 use Rattle.model.specs.Meaning.{bound}
+use Rattle.model.specs.Model.{sum-over}
 use Rattle.model.proofs.Trees.{chain-below, lin-fit}
 use Rattle.evaluate.proofs.Runs.{run-more, run-stays}
 use Rattle.evaluate.proofs.Working.{idle-sum}
 use Rattle.evaluate.proofs.sums.+add_over+add_sum+add_summand.Needs as need
+
+pub add-over-returns-then-not-over-works : need.add-over-returns-then-not-over-works
+unfolding worked-sum
+add-over-returns-then-not-over-works t c = λ d l m p q h.
+    let s = symbols-in (c .args .words .now) in
+    let x = assignment (c .args .values .now) in
+    let is = c .args .indexes .now in
+    let g = c .args .sign in
+    sym (idle-sum s x g is (sum-over (c .args .over .set) d l) (c .args .so-far) (sym (c .over-works .ensures d l p q) ∙ c .if-not-over-works .taken))
 
 pub add-over-loop-i-holds : need.add-over-loop-i-holds
 add-over-loop-i-holds t c = λ d l m p q h. unfold run in refl
@@ -56,95 +62,87 @@ add-over-returns t c = λ d l m p q h.
     c .loop-i .inv d l m p q h ∙ ap (λ n. run (summand s is d (λ js. worked-sum s x g js l)) n r) (e ∙ c .set-size-i-end .ensures)
 
 pub add-sum-returns-in-rest : need.add-sum-returns-in-rest
-unfolding worked-sum
-add-sum-returns-in-rest t c = λ l m h n.
+unfolding worked-sum sum-depth
+add-sum-returns-in-rest t c = λ l m h d.
     let s = symbols-in (c .args .words .now) in
     let x = assignment (c .args .values .now) in
     let is = c .args .indexes .now in
     let g = c .args .sign in
-    let r = c .args .so-far in
-    let (e, z, q) = lin-fit (c .args .words .now) (c .args .k) (c .in-Amount .ensures tt) l h in
-    ap (λ o. then o (λ a. with-constant g a r)) (c .in-rest .ensures tt e q) ∙ sym (ap (λ y. worked-sum s x g is y r) z)
+    let r = c .chain .running in
+    let (b, i, n, e) = c .chain .inv .1 l m h d in
+    let (y, w, z, p, q) = lin-fit (c .args .words .now) (c .chain .at) (c .in-Chain .ensures tt) b i in
+    let k = ap sum-depth z in
+    ap (λ o. then o (worked-sum s x g is w)) (c .in-rest .ensures tt y m p (omega arith) ∙ ap (λ u. worked-sum s x u is y r) (c .sign-under-under .ensures)) ∙ sym (ap (λ v. worked-sum s x g is v r) z) ∙ e
 
-pub add-sum-returns-in-Some : need.add-sum-returns-in-Some
+pub add-sum-chain-again : need.add-sum-chain-again
+unfolding worked-sum sum-depth
+add-sum-chain-again t c =
+    let f = chain-below (c .args .words .now) (c .chain .at) (c .in-Chain .inner) (c .in-Chain .t) (c .in-Chain .rest) (c .in-Chain .ensures tt) in (
+      omega (arith, f, c .chain .inv .0),
+      λ l m h d.
+          let s = symbols-in (c .args .words .now) in
+          let x = assignment (c .args .values .now) in
+          let is = c .args .indexes .now in
+          let g = c .args .sign in
+          let r = c .chain .running in
+          let (b, i, n, e) = c .chain .inv .1 l m h d in
+          let (y, w, z, p, q) = lin-fit (c .args .words .now) (c .chain .at) (c .in-Chain .ensures tt) b i in
+          let k = ap sum-depth z in (
+            w,
+            q,
+            omega arith,
+            ap (λ o. then o (worked-sum s x g is w)) (c .in-Some .ensures tt y m p (omega arith) ∙ ap (λ u. worked-sum s x u is y r) (c .sign-under-under .ensures)) ∙ sym (ap (λ v. worked-sum s x g is v r) z) ∙ e,
+          ),
+    )
+
+pub add-sum-returns-in-Nothing : need.add-sum-returns-in-Nothing
 unfolding worked-sum
-add-sum-returns-in-Some t c = λ l m h n.
+add-sum-returns-in-Nothing t c = λ l m h d.
     let s = symbols-in (c .args .words .now) in
     let x = assignment (c .args .values .now) in
     let is = c .args .indexes .now in
     let g = c .args .sign in
-    let r = c .args .so-far in
-    let (e, z, q) = lin-fit (c .args .words .now) (c .args .k) (c .in-Amount .ensures tt) l h in
-    let f : SFits w64 (c .in-Some .a) = search needs in
-    let v : c .add-constant .result ≡ with-constant g (c .in-Some .a) r = simp toZ-ofZ at (c .add-constant .ensures) in
-    v ∙ ap (λ o. then o (λ a. with-constant g a r)) (c .in-Some .ensures tt e q) ∙ sym (ap (λ y. worked-sum s x g is y r) z)
+    let r = c .chain .running in
+    let (b, i, n, e) = c .chain .inv .1 l m h d in
+    sym (ap (λ v. worked-sum s x g is v r) (lin-fit (c .args .words .now) (c .chain .at) (c .in-Nothing .ensures tt) b i)) ∙ e
+
+pub add-sum-returns-in-Amount : need.add-sum-returns-in-Amount
+unfolding worked-sum
+add-sum-returns-in-Amount t c = λ l m h d.
+    let s = symbols-in (c .args .words .now) in
+    let x = assignment (c .args .values .now) in
+    let is = c .args .indexes .now in
+    let g = c .args .sign in
+    let r = c .chain .running in
+    let (b, i, n, e) = c .chain .inv .1 l m h d in
+    let (y, z, q) = lin-fit (c .args .words .now) (c .chain .at) (c .in-Amount .ensures tt) b i in
+    c .add-amount .ensures y q ∙ sym (ap (λ v. worked-sum s x g is v r) z) ∙ e
 
 pub add-sum-returns-in-Term : need.add-sum-returns-in-Term
-add-sum-returns-in-Term t c = λ l m h n.
+add-sum-returns-in-Term t c = λ l m h d.
     let s = symbols-in (c .args .words .now) in
     let x = assignment (c .args .values .now) in
     let is = c .args .indexes .now in
     let g = c .args .sign in
-    let r = c .args .so-far in
-    let (e, f, j, z, p, q, w) = lin-fit (c .args .words .now) (c .args .k) (c .in-Term .ensures tt) l h in
-    c .add-weighted .ensures e f j m p q w ∙ sym (ap (λ y. worked-sum s x g is y r) z)
+    let r = c .chain .running in
+    let (b, i, n, e) = c .chain .inv .1 l m h d in
+    let (y, f, j, z, p, q, w) = lin-fit (c .args .words .now) (c .chain .at) (c .in-Term .ensures tt) b i in
+    c .add-weighted .ensures y f j m p q w ∙ sym (ap (λ v. worked-sum s x g is v r) z) ∙ e
 
-pub add-sum-returns-in-rest-add-sum : need.add-sum-returns-in-rest-add-sum
+pub add-sum-returns-in-Sum : need.add-sum-returns-in-Sum
 unfolding worked-sum sum-depth
-add-sum-returns-in-rest-add-sum t c = λ l m h n.
+add-sum-returns-in-Sum t c = λ l m h d.
     let s = symbols-in (c .args .words .now) in
     let x = assignment (c .args .values .now) in
     let is = c .args .indexes .now in
     let g = c .args .sign in
-    let r = c .args .so-far in
-    let (a, b, z, p, q) = lin-fit (c .args .words .now) (c .args .k) (c .in-Chain .ensures tt) l h in
-    let w = ap sum-depth z in
-    ap (λ o. then o (worked-sum s x (sign-of g (c .in-Chain .inner)) is b)) (c .in-rest-add-sum .ensures tt a m p (omega arith)) ∙ sym (ap (λ y. worked-sum s x g is y r) z)
-
-pub add-sum-add-sum-requires-in-Chain : need.add-sum-add-sum-requires-in-Chain
-add-sum-add-sum-requires-in-Chain t c κs =
-    let b = chain-below (c .args .words .now) (c .args .k) (c .in-Chain .i) (c .in-Chain .inner) (c .in-Chain .j) (c .in-Chain .ensures tt) in
-    (search needs, c .pre)
-
-pub add-sum-returns-in-Some-add-sum : need.add-sum-returns-in-Some-add-sum
-unfolding worked-sum sum-depth
-add-sum-returns-in-Some-add-sum t c = λ l m h n.
-    let s = symbols-in (c .args .words .now) in
-    let x = assignment (c .args .values .now) in
-    let is = c .args .indexes .now in
-    let g = c .args .sign in
-    let r = c .args .so-far in
-    let (a, b, z, p, q) = lin-fit (c .args .words .now) (c .args .k) (c .in-Chain .ensures tt) l h in
-    let w = ap sum-depth z in
-    c .add-sum-in-Chain .ensures b m q (omega arith) ∙ ap (λ u. worked-sum s x u is b (c .in-Some-add-sum .left)) (c .sign-under .ensures)
-    ∙ ap (λ o. then o (worked-sum s x (sign-of g (c .in-Chain .inner)) is b)) (c .in-Some-add-sum .ensures tt a m p (omega arith)) ∙ sym (ap (λ y. worked-sum s x g is y r) z)
-
-pub add-sum-returns-then-nest-eq0 : need.add-sum-returns-then-nest-eq0
-unfolding sum-depth
-add-sum-returns-then-nest-eq0 t c = λ l m h n.
-    let (d, a, z, p, q) = lin-fit (c .args .words .now) (c .args .k) (c .in-Sum .ensures tt) l h in
-    absurd (omega (arith, ap sum-depth z, c .if-nest-eq0 .taken))
-
-pub add-sum-returns-then-not-works : need.add-sum-returns-then-not-works
-add-sum-returns-then-not-works t c = λ l m h n.
-    let s = symbols-in (c .args .words .now) in
-    let x = assignment (c .args .values .now) in
-    let is = c .args .indexes .now in
-    let g = c .args .sign in
-    let r = c .args .so-far in
-    sym (idle-sum s x g is l r (sym (c .works .ensures l h) ∙ c .if-not-works .taken))
-
-pub add-sum-returns-else-not-works : need.add-sum-returns-else-not-works
-unfolding worked-sum sum-depth
-add-sum-returns-else-not-works t c = λ l m h n.
-    let s = symbols-in (c .args .words .now) in
-    let x = assignment (c .args .values .now) in
-    let is = c .args .indexes .now in
-    let g = c .args .sign in
-    let r = c .args .so-far in
-    let (d, a, z, p, q) = lin-fit (c .args .words .now) (c .args .k) (c .in-Sum .ensures tt) l h in
-    let w = ap sum-depth z in
-    c .add-over .ensures d a m p q (omega arith) ∙ sym (ap (λ y. worked-sum s x g is y r) z)
+    let r = c .chain .running in
+    let (b, i, n, e) = c .chain .inv .1 l m h d in
+    let (y, w, z, p, q) = lin-fit (c .args .words .now) (c .chain .at) (c .in-Sum .ensures tt) b i in
+    let k = ap sum-depth z in
+    c .add-over .ensures y w m p q (omega arith) ∙ sym (ap (λ v. worked-sum s x g is v r) z) ∙ e
 
 pub add-sum-returns-in-Bad : need.add-sum-returns-in-Bad
-add-sum-returns-in-Bad t c = λ l m h n. absurd (lin-fit (c .args .words .now) (c .args .k) (c .in-Bad .ensures tt) l h)
+add-sum-returns-in-Bad t c = λ l m h d.
+    let (b, i, n, e) = c .chain .inv .1 l m h d in
+    absurd (lin-fit (c .args .words .now) (c .chain .at) (c .in-Bad .ensures tt) b i)
