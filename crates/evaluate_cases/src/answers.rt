@@ -6,23 +6,23 @@ use evaluate::numbers::number;
 use evaluate::sums::linear_sum;
 
 // In place of a number where there is no result. No result is as large.
-pub const NONE: i64 = i64::MAX;
+pub(crate) const NONE: i64 = i64::MAX;
 
 // Where the model that a test builds had no room for its node: the test is wrong.
-pub const FULL: i64 = i64::MIN;
+pub(crate) const FULL: i64 = i64::MIN;
 
-pub const NO: i64 = 0;
+pub(crate) const NO: i64 = 0;
 
-pub const YES: i64 = 1;
+pub(crate) const YES: i64 = 1;
 
-pub fn amount(r: Option<i64>) -> i64 {
+pub(crate) fn amount(r: Option<i64>) -> i64 {
     match r {
         Some(a) => a,
         None => NONE,
     }
 }
 
-pub fn verdict(r: Option<bool>) -> i64 {
+pub(crate) fn verdict(r: Option<bool>) -> i64 {
     match r {
         Some(true) => YES,
         Some(false) => NO,
@@ -31,7 +31,7 @@ pub fn verdict(r: Option<bool>) -> i64 {
 }
 
 // What a number comes to for the indexes in force.
-pub fn number_at(m: &Builder, indexes: &[u32], k: usize) -> i64 {
+pub(crate) fn number_at(m: &Builder, indexes: &[u32], k: usize) -> i64 {
     if k == 0 {
         return FULL;
     }
@@ -39,7 +39,7 @@ pub fn number_at(m: &Builder, indexes: &[u32], k: usize) -> i64 {
 }
 
 // What a sum comes to for the values of the variables.
-pub fn sum_at(m: &Builder, values: &[u64], k: usize) -> i64 {
+pub(crate) fn sum_at(m: &Builder, values: &[u64], k: usize) -> i64 {
     if k == 0 {
         return FULL;
     }
@@ -47,7 +47,7 @@ pub fn sum_at(m: &Builder, values: &[u64], k: usize) -> i64 {
 }
 
 // Whether a condition holds for the indexes in force.
-pub fn condition_at(m: &Builder, indexes: &[u32], k: usize) -> i64 {
+pub(crate) fn condition_at(m: &Builder, indexes: &[u32], k: usize) -> i64 {
     if k == 0 {
         return FULL;
     }
@@ -55,7 +55,7 @@ pub fn condition_at(m: &Builder, indexes: &[u32], k: usize) -> i64 {
 }
 
 // Whether a constraint is met, as number 0 of the model.
-pub fn constraint_at(m: &Builder, values: &[u64], k: usize) -> i64 {
+pub(crate) fn constraint_at(m: &Builder, values: &[u64], k: usize) -> i64 {
     if k == 0 {
         return FULL;
     }
@@ -64,7 +64,7 @@ pub fn constraint_at(m: &Builder, values: &[u64], k: usize) -> i64 {
     verdict(met(&whole.words, values, 0))
 }
 
-pub fn numbers<const N: usize>(m: &Builder, indexes: &[u32], nodes: [usize; N]) -> [i64; N] {
+pub(crate) fn numbers<const N: usize>(m: &Builder, indexes: &[u32], nodes: [usize; N]) -> [i64; N] {
     let mut told = [0; N];
     for i in 0..N {
         told[i] = number_at(m, indexes, nodes[i]);
@@ -72,7 +72,7 @@ pub fn numbers<const N: usize>(m: &Builder, indexes: &[u32], nodes: [usize; N]) 
     told
 }
 
-pub fn sums<const N: usize>(m: &Builder, values: &[u64], nodes: [usize; N]) -> [i64; N] {
+pub(crate) fn sums<const N: usize>(m: &Builder, values: &[u64], nodes: [usize; N]) -> [i64; N] {
     let mut told = [0; N];
     for i in 0..N {
         told[i] = sum_at(m, values, nodes[i]);
@@ -80,7 +80,11 @@ pub fn sums<const N: usize>(m: &Builder, values: &[u64], nodes: [usize; N]) -> [
     told
 }
 
-pub fn conditions<const N: usize>(m: &Builder, indexes: &[u32], nodes: [usize; N]) -> [i64; N] {
+pub(crate) fn conditions<const N: usize>(
+    m: &Builder,
+    indexes: &[u32],
+    nodes: [usize; N],
+) -> [i64; N] {
     let mut told = [0; N];
     for i in 0..N {
         told[i] = condition_at(m, indexes, nodes[i]);
@@ -88,7 +92,11 @@ pub fn conditions<const N: usize>(m: &Builder, indexes: &[u32], nodes: [usize; N
     told
 }
 
-pub fn constraints<const N: usize>(m: &Builder, values: &[u64], nodes: [usize; N]) -> [i64; N] {
+pub(crate) fn constraints<const N: usize>(
+    m: &Builder,
+    values: &[u64],
+    nodes: [usize; N],
+) -> [i64; N] {
     let mut told = [0; N];
     for i in 0..N {
         told[i] = constraint_at(m, values, nodes[i]);
@@ -98,21 +106,21 @@ pub fn constraints<const N: usize>(m: &Builder, values: &[u64], nodes: [usize; N
 
 // Answers of a table of cases against what they should be.
 #[derive(Clone, Copy)]
-pub struct Tally {
+pub(crate) struct Tally {
     count: usize,
     // The first that is wrong: how many were right before, what was told, and what it should be.
     pub wrong: Option<(usize, i64, i64)>,
 }
 
 impl Tally {
-    pub fn new() -> Self {
+    pub(crate) fn new() -> Self {
         Tally {
             count: 0,
             wrong: None,
         }
     }
 
-    pub fn compare(&mut self, told: i64, want: i64) {
+    pub(crate) fn compare(&mut self, told: i64, want: i64) {
         if told != want && self.wrong.is_none() {
             self.wrong = Some((self.count, told, want));
         }

@@ -4,35 +4,35 @@
 // it adds nothing and gives 0, where no node ever is.
 
 // Tags, for the functions that add nodes of several sorts.
-pub const PLUS: u64 = 4;
+pub(crate) const PLUS: u64 = 4;
 
-pub const MINUS: u64 = 5;
+pub(crate) const MINUS: u64 = 5;
 
-pub const TIMES: u64 = 6;
+pub(crate) const TIMES: u64 = 6;
 
-pub const LESS: u64 = 7;
+pub(crate) const LESS: u64 = 7;
 
-pub const EQUAL: u64 = 8;
+pub(crate) const EQUAL: u64 = 8;
 
-pub const DIFFER: u64 = 9;
+pub(crate) const DIFFER: u64 = 9;
 
-pub const ADDED: u64 = 12;
+pub(crate) const ADDED: u64 = 12;
 
-pub const TAKEN: u64 = 13;
+pub(crate) const TAKEN: u64 = 13;
 
-pub const AT_MOST: u64 = 15;
+pub(crate) const AT_MOST: u64 = 15;
 
-pub const AT_LEAST: u64 = 16;
+pub(crate) const AT_LEAST: u64 = 16;
 
-pub const EXACTLY: u64 = 17;
+pub(crate) const EXACTLY: u64 = 17;
 
 // In place of a condition's node, where there is none.
-pub const ALWAYS: usize = 0;
+pub(crate) const ALWAYS: usize = 0;
 
 // Numbers are there below 2^62 in size, and the largest is one less.
-pub const LIMIT: i64 = 1 << 62;
+pub(crate) const LIMIT: i64 = 1 << 62;
 
-pub const MOST: i64 = LIMIT - 1;
+pub(crate) const MOST: i64 = LIMIT - 1;
 
 const ROOM: usize = 1024;
 
@@ -41,28 +41,28 @@ const START: usize = 640;
 
 // The nodes that every model begins with: the fixed numbers 0, 1, 2, 10 and 2^62, and the indexes of
 // the outermost set and of the one in it.
-pub const ZERO: usize = START;
+pub(crate) const ZERO: usize = START;
 
-pub const ONE: usize = START + 5;
+pub(crate) const ONE: usize = START + 5;
 
-pub const TWO: usize = START + 10;
+pub(crate) const TWO: usize = START + 10;
 
-pub const TEN: usize = START + 15;
+pub(crate) const TEN: usize = START + 15;
 
-pub const BIG: usize = START + 20;
+pub(crate) const BIG: usize = START + 20;
 
-pub const I: usize = START + 25;
+pub(crate) const I: usize = START + 25;
 
-pub const J: usize = START + 30;
+pub(crate) const J: usize = START + 30;
 
 #[derive(Clone, Copy)]
-pub struct Builder {
-    pub words: [u64; ROOM],
+pub(crate) struct Builder {
+    pub(crate) words: [u64; ROOM],
     next: usize,
 }
 
 impl Builder {
-    pub fn new() -> Self {
+    pub(crate) fn new() -> Self {
         let mut m = Builder {
             words: [0; ROOM],
             next: START,
@@ -76,7 +76,7 @@ impl Builder {
     }
 
     // Writes a word of the head.
-    pub fn put(&mut self, i: usize, word: u64) {
+    pub(crate) fn put(&mut self, i: usize, word: u64) {
         if i < START {
             self.words[i] = word;
         }
@@ -91,7 +91,7 @@ impl Builder {
     }
 
     // Appends a node.
-    pub fn node(&mut self, tag: u64, parts: [usize; 4]) -> usize {
+    pub(crate) fn node(&mut self, tag: u64, parts: [usize; 4]) -> usize {
         let at = self.next;
         if at > ROOM - 5 {
             return 0;
@@ -111,70 +111,70 @@ impl Builder {
     }
 
     // A fixed number.
-    pub fn fixed(&mut self, a: i64) -> usize {
+    pub(crate) fn fixed(&mut self, a: i64) -> usize {
         self.node(1, [a.cast_unsigned() as usize, 0, 0, 0])
     }
 
     // The index that is bound with l others around it.
-    pub fn index(&mut self, l: usize) -> usize {
+    pub(crate) fn index(&mut self, l: usize) -> usize {
         self.node(2, [l, 0, 0, 0])
     }
 
     // An entry of table t in row e and column f.
-    pub fn entry(&mut self, t: usize, e: usize, f: usize) -> usize {
+    pub(crate) fn entry(&mut self, t: usize, e: usize, f: usize) -> usize {
         self.node(3, [t, e, f, 0])
     }
 
     // Two numbers joined.
-    pub fn op(&mut self, tag: u64, e: usize, f: usize) -> usize {
+    pub(crate) fn op(&mut self, tag: u64, e: usize, f: usize) -> usize {
         self.node(tag, [e, f, 0, 0])
     }
 
     // Two numbers in a relation.
-    pub fn relate(&mut self, tag: u64, e: usize, f: usize) -> usize {
+    pub(crate) fn relate(&mut self, tag: u64, e: usize, f: usize) -> usize {
         self.node(tag, [e, f, 0, 0])
     }
 
     // A condition and another.
-    pub fn both(&mut self, c: usize, d: usize) -> usize {
+    pub(crate) fn both(&mut self, c: usize, d: usize) -> usize {
         self.node(10, [c, d, 0, 0])
     }
 
     // Number e before the variable of array a in row f and column g.
-    pub fn term(&mut self, e: usize, a: usize, f: usize, g: usize) -> usize {
+    pub(crate) fn term(&mut self, e: usize, a: usize, f: usize, g: usize) -> usize {
         self.node(11, [e, a, f, g])
     }
 
     // The variable of array a in row i and column j, with the number 1 before it.
-    pub fn variable(&mut self, a: usize, i: i64, j: i64) -> usize {
+    pub(crate) fn variable(&mut self, a: usize, i: i64, j: i64) -> usize {
         let f = self.fixed(i);
         let g = self.fixed(j);
         self.term(ONE, a, f, g)
     }
 
     // A sum and one part more, added or taken away: a chain of two.
-    pub fn chain(&mut self, tag: u64, l: usize, t: usize) -> usize {
+    pub(crate) fn chain(&mut self, tag: u64, l: usize, t: usize) -> usize {
         let rest = self.node(tag, [t, 0, 0, 0]);
         self.node(ADDED, [l, rest, 0, 0])
     }
 
     // A sum over set k, where a condition holds.
-    pub fn sum(&mut self, k: usize, c: usize, l: usize) -> usize {
+    pub(crate) fn sum(&mut self, k: usize, c: usize, l: usize) -> usize {
         self.node(14, [k, c, l, 0])
     }
 
     // Two sums compared.
-    pub fn compare(&mut self, tag: u64, l: usize, r: usize) -> usize {
+    pub(crate) fn compare(&mut self, tag: u64, l: usize, r: usize) -> usize {
         self.node(tag, [l, r, 0, 0])
     }
 
     // A constraint for all of set k, where a condition holds.
-    pub fn all(&mut self, k: usize, c: usize, r: usize) -> usize {
+    pub(crate) fn all(&mut self, k: usize, c: usize, r: usize) -> usize {
         self.node(18, [k, c, r, 0])
     }
 
     // Set k of up to 16.
-    pub fn set(&mut self, k: usize, size: u64) {
+    pub(crate) fn set(&mut self, k: usize, size: u64) {
         if k < 16 {
             self.put(8 + 4 * k, size);
             self.count(0, k + 1);
@@ -182,7 +182,7 @@ impl Builder {
     }
 
     // Table k of up to 16, with its numbers row by row.
-    pub fn table(&mut self, k: usize, rows: u64, columns: u64, numbers: &[i64]) {
+    pub(crate) fn table(&mut self, k: usize, rows: u64, columns: u64, numbers: &[i64]) {
         if k < 16 {
             self.put(72 + 8 * k, rows);
             self.put(73 + 8 * k, columns);
@@ -195,7 +195,15 @@ impl Builder {
     }
 
     // Array k of up to 16, with its bounds and the number of its first variable.
-    pub fn array(&mut self, k: usize, rows: u64, columns: u64, lower: i64, upper: i64, first: u64) {
+    pub(crate) fn array(
+        &mut self,
+        k: usize,
+        rows: u64,
+        columns: u64,
+        lower: i64,
+        upper: i64,
+        first: u64,
+    ) {
         if k < 16 {
             self.put(200 + 8 * k, rows);
             self.put(201 + 8 * k, columns);
@@ -207,7 +215,7 @@ impl Builder {
     }
 
     // Constraint k of up to 256.
-    pub fn constraint(&mut self, k: usize, node: usize) {
+    pub(crate) fn constraint(&mut self, k: usize, node: usize) {
         if k < 256 {
             self.put(328 + k, node as u64);
             self.count(3, k + 1);
