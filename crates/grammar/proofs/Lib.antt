@@ -22,3 +22,5 @@ pub mod PassedLines
 pub mod Anew
 pub mod Theorems
 pub mod Examples
+pub mod Bounded
+pub mod InBounds
