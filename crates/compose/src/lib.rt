@@ -3,6 +3,7 @@
 // A reader of a model's text goes through it once. It writes a head when it has read a line, and
 // nodes as it goes, each behind the last. A node changes no word but its own, and a head none but
 // its own and its count, so that what has been written before stays what it is.
+#![tactic(auto)]
 
 // Heads take the words below this place, nodes and the numbers of tables those from it on.
 pub const FIRST_NODE: usize = 1808;

@@ -1,6 +1,8 @@
 // What the programs share: input from a file or from standard input, and a clear line on standard
 // error where it cannot be read. Nothing can be promised of what a file holds, so these functions
 // have no contract beyond being safe and coming to an end.
+#![tactic(auto)]
+
 use std::io::Read;
 use std::{fs, io};
 

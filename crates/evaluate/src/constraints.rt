@@ -4,7 +4,7 @@
 // worked out for the values, and for all of a set one index after the other, up to the first that
 // fails.
 ghost use Rattle.std.specs.Prelude.{◌≡◌, ℕ, ◌+◌, ◌<◌, ◌≤◌, true, [], length, Some, None, Option, slice_index_or};
-ghost use Rattle.model.specs.Evaluation.{compared as compared-with, constraint_works, difference_of, instance as instance-of, run, then, where_so, worked_constraint, worked_filter};
+ghost use Rattle.model.specs.Evaluation.{compared as compared_with, constraint_works, difference_of, instance as instance_of, run, then, where_so, worked_constraint, worked_filter};
 ghost use Rattle.model.specs.Kept.{ConstraintIn, FilterIn, Keeps, LinIn, Numbered, assignment, depth, sum_depth, symbols_in};
 ghost use Rattle.model.specs.Meaning.{size_of};
 ghost use Rattle.model.specs.Model.{Cond, Constraint, Lin, Model};
@@ -18,7 +18,7 @@ use model::{Comparison, ConstraintNode, Over, Sign};
 
 // A difference against 0.
 fn compared(c: Comparison, d: i64) -> bool
-    ensures { result ≡ compared-with c d }
+    ensures { result ≡ compared_with c d }
 {
     match c {
         Comparison::AtMost => d <= 0,
@@ -39,7 +39,7 @@ fn compare(
 ) -> Option<bool>
     requires { length indexes.now + nest ≤ 8 }
     ensures { (l r : Lin) → Numbered words.now → LinIn words.now left l → LinIn words.now right r → sum_depth l ≤ nest → sum_depth r ≤ nest →
-        result ≡ then (difference_of (symbols_in words.now) (assignment values.now) indexes.now l r) (λ d. Some (compared-with c d)) }
+        result ≡ then (difference_of (symbols_in words.now) (assignment values.now) indexes.now l r) (λ d. Some (compared_with c d)) }
 {
     let Some(first) = add_sum(words, values, indexes, nest, left, Sign::Positive, NOTHING) else {
         return None;
@@ -95,7 +95,7 @@ fn instance_met(
 fn all_met(words: &[u64], values: &[u64], indexes: &[u32], nest: usize, over: Over) -> Option<bool>
     requires { (length indexes.now + nest ≤ 8) × (0 < nest) }
     ensures { (c : Option Cond) (q : Constraint) → Numbered words.now → FilterIn words.now over.filter c → ConstraintIn words.now over.body q → depth q < nest →
-        result ≡ run (instance-of (symbols_in words.now) indexes.now c (λ js. worked_constraint (symbols_in words.now) (assignment values.now) js q))
+        result ≡ run (instance_of (symbols_in words.now) indexes.now c (λ js. worked_constraint (symbols_in words.now) (assignment values.now) js q))
         (size_of (symbols_in words.now) over.set) true }
 {
     for i in 0..set_size(words, over.set) {

@@ -5,7 +5,7 @@
 // below 2^62 on the way, the terms below 2^61 between their bounds), which their sum has not.
 ghost use Rattle.std.specs.Prelude.{◌≡◌, ℕ, ◌+◌, ◌<◌, ◌≤◌, [], length, take, ◌+ℤ◌, Some, Option};
 ghost use Rattle.integer.specs.Checked.{checked};
-ghost use Rattle.model.specs.Evaluation.{run, sign_of, sum_works, summand as summand-of, then, where_so, whole as whole_of, with_constant, with_term, worked_filter, worked_number, worked_sum, worked_value};
+ghost use Rattle.model.specs.Evaluation.{run, sign_of, sum_works, summand as summand_of, then, where_so, whole as whole_of, with_constant, with_term, worked_filter, worked_number, worked_sum, worked_value};
 ghost use Rattle.model.specs.Kept.{FilterIn, LinIn, NumIn, Numbered, assignment, sum_depth, symbols_in};
 ghost use Rattle.model.specs.Meaning.{bound, signed, size_of};
 ghost use Rattle.model.specs.Model.{Cond, Lin, Num, sum_over, term as term_of};
@@ -220,7 +220,7 @@ fn add_over(
 ) -> Option<Running>
     requires { length indexes.now + nest ≤ 8 }
     ensures { (c : Option Cond) (l : Lin) → Numbered words.now → FilterIn words.now over.filter c → LinIn words.now over.body l → sum_depth l < nest →
-        result ≡ run (summand-of (symbols_in words.now) indexes.now c (λ js. worked_sum (symbols_in words.now) (assignment values.now) sign js l))
+        result ≡ run (summand_of (symbols_in words.now) indexes.now c (λ js. worked_sum (symbols_in words.now) (assignment values.now) sign js l))
         (size_of (symbols_in words.now) over.set) so_far }
 {
     if nest == 0 {

@@ -1,5 +1,6 @@
 // Small models, and what the crates `model` and `evaluate` make of them: at the edges of numbers,
 // tables, arrays and sets, and for words that keep no model at all.
+#![tactic(auto)]
 
 #[cfg(test)]
 mod answers;

@@ -3,7 +3,7 @@ ghost use Rattle.std.specs.Prelude.{◌≡◌, ℕ, suc, ◌+◌, ◌-◌, ◌<�
 ghost use Rattle.compose.specs.Agree.{Agree};
 ghost use Rattle.expressions.specs.Conditions.{CondMade, FilterMade, bound_at, compared_at, compared_of, filter_at};
 ghost use Rattle.expressions.specs.Made.{Room};
-ghost use Rattle.grammar.specs.Reading.{a_set, byte, condition as condition-at, find as found_in, num as num_at, relation as relation-at, with_index};
+ghost use Rattle.grammar.specs.Reading.{a_set, byte, condition as condition_at, find as found_in, num as num_at, relation as relation_at, with_index};
 ghost use Rattle.grammar.specs.Says.{cond_of};
 ghost use Rattle.scope.specs.Names.{names_in, part};
 ghost use Rattle.tokens.specs.Told.{Told};
@@ -23,7 +23,7 @@ use tokens::{literal, look, name};
 // The relation at a place.
 fn relation(text: &[u8], at: usize) -> Result<RelationAt, Refusal>
     requires { at ≤ 65536 }
-    ensures told { Told (λ p. p.end) (λ o p. (o ≡ p.relation) × (at < p.end) × (p.end ≤ length text.now) × (p.end ≤ 65536)) (relation-at text.now at) result }
+    ensures told { Told (λ p. p.end) (λ o p. (o ≡ p.relation) × (at < p.end) × (p.end ≤ length text.now) × (p.end ≤ 65536)) (relation_at text.now at) result }
 {
     match look(text, at) {
         // =
@@ -37,7 +37,7 @@ fn relation(text: &[u8], at: usize) -> Result<RelationAt, Refusal>
 fn equal(text: &[u8], at: usize) -> Result<RelationAt, Refusal>
     requires place { at ≤ 65536 }
     requires here { byte text.now at ≡ 61 }
-    ensures told { Told (λ p. p.end) (λ o p. (o ≡ p.relation) × (at < p.end) × (p.end ≤ length text.now) × (p.end ≤ 65536)) (relation-at text.now at) result }
+    ensures told { Told (λ p. p.end) (λ o p. (o ≡ p.relation) × (at < p.end) × (p.end ≤ length text.now) × (p.end ≤ 65536)) (relation_at text.now at) result }
 {
     if at == LONGEST {
         return Err(Refusal::Range(LONGEST));
@@ -51,7 +51,7 @@ fn equal(text: &[u8], at: usize) -> Result<RelationAt, Refusal>
 fn less_or_differ(text: &[u8], at: usize) -> Result<RelationAt, Refusal>
     requires place { at ≤ 65536 }
     requires here { byte text.now at ≡ 60 }
-    ensures told { Told (λ p. p.end) (λ o p. (o ≡ p.relation) × (at < p.end) × (p.end ≤ length text.now) × (p.end ≤ 65536)) (relation-at text.now at) result }
+    ensures told { Told (λ p. p.end) (λ o p. (o ≡ p.relation) × (at < p.end) × (p.end ≤ length text.now) × (p.end ≤ 65536)) (relation_at text.now at) result }
 {
     if at == LONGEST {
         return Err(Refusal::Range(LONGEST));
@@ -114,7 +114,7 @@ fn condition(
     at: usize,
 ) -> Result<Node, Refusal>
     requires room { Room (length words.old) free at }
-    ensures told { Told (λ p. p.end) (λ d p. CondMade text.now at free words.old words.new (cond_of (names_in text.now scope.now) d) p) (condition-at text.now (num_at text.now (names_in text.now scope.now) left) (length text.now + 1) at) result }
+    ensures told { Told (λ p. p.end) (λ d p. CondMade text.now at free words.old words.new (cond_of (names_in text.now scope.now) d) p) (condition_at text.now (num_at text.now (names_in text.now scope.now) left) (length text.now + 1) at) result }
     ensures kept { Agree 0 free words.old words.new }
 {
     let mut all = compared(text, scope, words, free, left, at)?;

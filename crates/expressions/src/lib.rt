@@ -9,6 +9,8 @@
 // production makes more than four words of three bytes, up to a constant, so where
 // 3 free + 4 (65,536 - at) is less than three times the words there are, by some words, room never
 // runs out, and no function on the way has to ask for it.
+#![tactic(auto)]
+
 pub mod conditions;
 pub mod finding;
 pub mod nodes;

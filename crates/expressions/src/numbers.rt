@@ -7,7 +7,7 @@ ghost use Rattle.compose.specs.Agree.{Agree};
 ghost use Rattle.expressions.specs.Made.{Room, NumMade};
 ghost use Rattle.expressions.specs.Places.{PlacesMade, enough, only_place, place_at, second_at};
 ghost use Rattle.expressions.specs.Signs.{operator_of, value_of};
-ghost use Rattle.grammar.specs.Reading.{Names, fixed_at, named as named-at, num as num_at, operator as operator-at, pair as pair-at};
+ghost use Rattle.grammar.specs.Reading.{Names, fixed_at, named as named_at, num as num_at, operator as operator_at, pair as pair_at};
 ghost use Rattle.scope.specs.Names.{names_in, part};
 ghost use Rattle.tokens.specs.Told.{Told};
 
@@ -41,7 +41,7 @@ fn operator_byte(c: u16) -> Option<Operator>
 
 // The operator at a place.
 fn operator(text: &[u8], at: usize) -> Result<Operator, Refusal>
-    ensures told { Told (λ _. at + 1) (λ o p. (o ≡ p) × (at < length text.now) × (at ≤ 65536 → at + 1 ≤ 65536)) (operator-at text.now at) result }
+    ensures told { Told (λ _. at + 1) (λ o p. (o ≡ p) × (at < length text.now) × (at ≤ 65536 → at + 1 ≤ 65536)) (operator_at text.now at) result }
 {
     let Some(operator) = operator_byte(look(text, at)) else {
         return Err(Refusal::Syntax(at));
@@ -191,7 +191,7 @@ pub(crate) fn named(
     requires room { Room (length words.old) free name.end }
     requires name { (name.begin < name.end) × (name.end ≤ length text.now) }
     ensures told { Told (λ p. p.end) (NumMade text.now (names_in text.now scope.now) name.begin free words.old words.new)
-        (named-at text.now (names_in text.now scope.now) left (num_at text.now (names_in text.now scope.now) (left - 1)) name.begin (part text.now name) name.end) result }
+        (named_at text.now (names_in text.now scope.now) left (num_at text.now (names_in text.now scope.now) (left - 1)) name.begin (part text.now name) name.end) result }
     ensures kept { Agree 0 free words.old words.new }
 {
     if look(text, name.end) != 91 {
@@ -228,7 +228,7 @@ fn pair(
     at: usize,
 ) -> Result<Node, Refusal>
     requires room { Room (length words.old) free at }
-    ensures told { Told (λ p. p.end) (NumMade text.now (names_in text.now scope.now) at free words.old words.new) (pair-at text.now left (num_at text.now (names_in text.now scope.now) (left - 1)) at) result }
+    ensures told { Told (λ p. p.end) (NumMade text.now (names_in text.now scope.now) at free words.old words.new) (pair_at text.now left (num_at text.now (names_in text.now scope.now) (left - 1)) at) result }
     ensures kept { Agree 0 free words.old words.new }
 {
     if left == 0 {

@@ -2,8 +2,8 @@
 ghost use Rattle.std.specs.Prelude.{◌≡◌, ◌+◌, ◌-◌, ◌*◌, ◌<◌, ◌≤◌, length, is_some, IfSome};
 ghost use Rattle.compose.specs.Agree.{Agree};
 ghost use Rattle.expressions.specs.Made.{Room};
-ghost use Rattle.expressions.specs.Sums.{AllWord, Compares, IsAll, LinMade, RowMade, ready as is-ready, second_byte, sides_at};
-ghost use Rattle.grammar.specs.Reading.{byte, comparison as comparison-at, lin as lin_at, one_byte, row as row_at};
+ghost use Rattle.expressions.specs.Sums.{AllWord, Compares, IsAll, LinMade, RowMade, ready as is_ready, second_byte, sides_at};
+ghost use Rattle.grammar.specs.Reading.{byte, comparison as comparison_at, lin as lin_at, one_byte, row as row_at};
 ghost use Rattle.model.specs.declared.Comparison.TheVariants.{Exactly};
 ghost use Rattle.scope.specs.Names.{names_in};
 ghost use Rattle.tokens.specs.Told.{Told};
@@ -62,7 +62,7 @@ fn exactly(text: &[u8], at: usize) -> Result<ComparisonAt, Refusal>
 // The comparison at a place.
 fn comparison(text: &[u8], at: usize) -> Result<ComparisonAt, Refusal>
     requires { at ≤ 65536 }
-    ensures told { Told (λ p. p.end) (Compares text.now at) (comparison-at text.now at) result }
+    ensures told { Told (λ p. p.end) (Compares text.now at) (comparison_at text.now at) result }
 {
     match look(text, at) {
         // <
@@ -195,7 +195,7 @@ fn row(
 
 // Whether there is room for all that a text may still hold.
 fn ready(long: usize, len: usize, waits: usize, count: usize, free: usize, at: usize) -> bool
-    ensures { result ≡ is-ready long len waits count free at }
+    ensures { result ≡ is_ready long len waits count free at }
 {
     if at > long
         || at > LONGEST
@@ -218,7 +218,7 @@ pub fn linear_sum(
     free: usize,
     at: usize,
 ) -> Option<Result<Node, Refusal>>
-    ensures ready { is_some result ≡ is-ready (length text.now) (length words.old) (length pending.old) scope.now.count free at }
+    ensures ready { is_some result ≡ is_ready (length text.now) (length words.old) (length pending.old) scope.now.count free at }
     ensures told { IfSome result (λ q. Told (λ p. p.end) (LinMade text.now (names_in text.now scope.now) at free words.old words.new) (lin_at text.now (length text.now + 1) 8 (names_in text.now scope.now) 64 at) q) }
     ensures kept { Agree 0 free words.old words.new }
 {
@@ -254,7 +254,7 @@ pub fn constraint(
     free: usize,
     at: usize,
 ) -> Option<Result<Node, Refusal>>
-    ensures ready { is_some result ≡ is-ready (length text.now) (length words.old) (length pending.old) scope.now.count free at }
+    ensures ready { is_some result ≡ is_ready (length text.now) (length words.old) (length pending.old) scope.now.count free at }
     ensures told { IfSome result (λ q. Told (λ p. p.end) (RowMade text.now (names_in text.now scope.now) at free words.old words.new) (row_at text.now (length text.now + 1) 8 (names_in text.now scope.now) at) q) }
     ensures kept { Agree 0 free words.old words.new }
 {

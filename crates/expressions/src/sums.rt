@@ -6,13 +6,13 @@
 ghost use Rattle.std.specs.Prelude.{◌≡◌, ℕ, ◌+◌, ◌-◌, ◌*◌, ◌<◌, ◌≤◌, List, length, Some, None};
 ghost use Rattle.compose.specs.Agree.{Agree, Settled};
 ghost use Rattle.expressions.specs.Made.{Made, Room, Zero};
-ghost use Rattle.expressions.specs.Sums.{Follow, Item, Leads, LinMade, SignRead, Stacked, TermMade, TermsMade, Waiting, chained, deep_of, followed, inner_of, sign_after, sign_end, sign_of as Signed-by, sign_word as word_of, term_at, terms_at};
+ghost use Rattle.expressions.specs.Sums.{Follow, Item, Leads, LinMade, SignRead, Stacked, TermMade, TermsMade, Waiting, chained, deep_of, followed, inner_of, sign_after, sign_end, sign_of as signed_by, sign_word as word_of, term_at, terms_at};
 ghost use Rattle.grammar.specs.Grammar.{Term};
 ghost use Rattle.grammar.specs.Reading.{lin as lin_at, sign as sign_at, sum_at};
 ghost use Rattle.grammar.specs.Says.{term_of};
 ghost use Rattle.model.specs.Kept.{LinIn};
 ghost use Rattle.model.specs.Model.{nothing};
-ghost use Rattle.model.specs.declared.Sign.{Sign as a-sign};
+ghost use Rattle.model.specs.declared.Sign.{Sign as ASign};
 ghost use Rattle.scope.specs.Names.{names_in};
 ghost use Rattle.tokens.specs.Told.{Told};
 
@@ -29,7 +29,7 @@ use tokens::{is_letter, literal, look, reserved_word, word};
 
 // The sign that a byte is.
 fn sign_byte(c: u16) -> Option<Sign>
-    ensures { result ≡ Signed-by c }
+    ensures { result ≡ signed_by c }
 {
     match c {
         43 => Some(Sign::Positive),
@@ -49,7 +49,7 @@ fn sign_word(sign: Sign) -> u64
 }
 
 fn sign_of(word: u64) -> Sign
-    ensures { (g : a-sign) → word ≡ word_of g → result ≡ g }
+    ensures { (g : ASign) → word ≡ word_of g → result ≡ g }
 {
     match word {
         0 => Sign::Positive,

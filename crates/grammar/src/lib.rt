@@ -4,6 +4,7 @@
 // (names that are there, numbers in range), Says.antt (the model of a text). Reading.antt is the way
 // from left to right that stops at the first fault, which the code of the reader follows; the claims
 // tie it to the grammar. There is no code here.
+#![tactic(auto)]
 
 // Why a text is refused, with the place that is told.
 #[derive(Clone, Copy)]

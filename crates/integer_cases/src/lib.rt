@@ -1,5 +1,6 @@
 // Examples of what the crate `integer` gives, most of them at the edges: where a
 // result just fits or just does not, and where a field just fits its slice.
+#![tactic(auto)]
 
 #[cfg(test)]
 mod tests {

@@ -3,6 +3,7 @@
 // A model is sets, tables, variable arrays, constraints and an objective. What it means stands in
 // specs/: Model.antt (what there is), Meaning.antt (values, feasible assignments, outcomes),
 // Rows.antt (expanded rows). The types below are what both the meaning and the code speak of.
+#![tactic(auto)]
 
 // What joins two numbers.
 #[derive(Clone, Copy)]

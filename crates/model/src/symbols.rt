@@ -7,8 +7,8 @@
 // tables lie behind. Every function answers for any words: what lies beyond them is 0.
 ghost use Rattle.std.specs.Prelude.{◌≡◌, ℕ, ◌+◌, ◌*◌, ◌<◌, ◌≤◌, min, is_some, IfSome, if◌then◌else◌, Some, None, nat_lt, unsigned_abs};
 ghost use Rattle.model.specs.Kept.{symbols_in, Numbered};
-ghost use Rattle.model.specs.Meaning.{below, inside, place as IsPlace-in, entry_of, size_of, table_of, present, variable as variable-of};
-ghost use Rattle.model.specs.Words.{word as word_in, limited as limited-to, constraint_count, constraint_place as node_of, objective_place as objective-of, line_at, line_of};
+ghost use Rattle.model.specs.Meaning.{below, inside, place as place_in, entry_of, size_of, table_of, present, variable as variable_of};
+ghost use Rattle.model.specs.Words.{word as word_in, limited as limited_to, constraint_count, constraint_place as node_of, objective_place as objective_of, line_at, line_of};
 ghost use Rattle.std.specs.Int.{w64};
 ghost use Rattle.std.proofs.Common.{to_z};
 
@@ -43,7 +43,7 @@ fn count(words: &[u64], i: usize, most: usize) -> usize
 
 // Word i, or 0 where it is above what it may be.
 fn limited(words: &[u64], i: usize, most: u64) -> usize
-    ensures value { result ≡ limited-to most (word_in words.now i) }
+    ensures value { result ≡ limited_to most (word_in words.now i) }
     ensures bound { result ≤ most }
 {
     let n = word(words, i);
@@ -65,7 +65,7 @@ fn index_below(i: i64, n: usize) -> Option<usize>
 // The place of row i and column j, counted row by row, or none beyond the ends.
 fn place(rows: usize, columns: usize, i: i64, j: i64) -> Option<usize>
     requires { (rows ≤ 1000) × (columns ≤ 1000) }
-    ensures value { result ≡ (if inside rows columns i j then Some (IsPlace-in columns i j) else None) }
+    ensures value { result ≡ (if inside rows columns i j then Some (place_in columns i j) else None) }
     ensures bound { IfSome result (λ k. (k < rows * columns) × (k < 1000000)) }
 {
     let (Some(a), Some(b)) = (index_below(i, rows), index_below(j, columns)) else {
@@ -112,7 +112,7 @@ pub fn table_entry(words: &[u64], t: usize, i: i64, j: i64) -> i64
 // The number of the variable of array a in row i and column j, or none beyond its ends.
 pub fn variable(words: &[u64], a: usize, i: i64, j: i64) -> Option<usize>
     ensures test { is_some result ≡ present (symbols_in words.now) a i j }
-    ensures value { Numbered words.now → IfSome result (λ u. u ≡ variable-of (symbols_in words.now) a i j) }
+    ensures value { Numbered words.now → IfSome result (λ u. u ≡ variable_of (symbols_in words.now) a i j) }
 {
     if a >= count(words, 2, MOST_SYMBOLS) {
         return None;
@@ -138,7 +138,7 @@ pub fn constraint_place(words: &[u64], k: usize) -> Option<usize>
 
 // The node of the objective.
 pub fn objective_place(words: &[u64]) -> usize
-    ensures { result ≡ objective-of words.now }
+    ensures { result ≡ objective_of words.now }
 {
     word(words, 4) as usize
 }

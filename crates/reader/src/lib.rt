@@ -3,6 +3,8 @@
 // Each function takes the place at which its part has to stand, and returns what stands there and
 // where it ends, or why the text is refused. What it returns is what the reading function of the
 // same part in the grammar says. Parts that several lines share have a function of their own.
+#![tactic(auto)]
+
 mod declarations;
 mod numbers;
 

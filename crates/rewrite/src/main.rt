@@ -1,4 +1,6 @@
 // Prints a model anew. The work is the library's: this program reads the text and lends the bytes.
+#![tactic(auto)]
+
 use std::io::Write;
 use std::{env, io};
 

@@ -3,6 +3,8 @@
 // Sets, tables, variable arrays and the indexes of the sums and alls around a place share one space
 // of names. A scope is passed by value: what a sum or an all adds is gone when it ends, since the
 // scope outside was never changed.
+#![tactic(auto)]
+
 pub mod names;
 pub mod scopes;
 

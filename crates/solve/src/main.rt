@@ -1,5 +1,7 @@
 // Solves a model and prints what was found out. The work is the library's: this
 // program reads the text and lends the bytes for the line.
+#![tactic(auto)]
+
 use solver::Outcome;
 use std::io::Write;
 use std::{env, io};

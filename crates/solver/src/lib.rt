@@ -1,6 +1,8 @@
 // The solver: the entries that the programs and other callers use.
 // It can read no text yet, so it finds nothing out, and says so. Nothing here
 // allocates: a caller lends the bytes that are written.
+#![tactic(auto)]
+
 ghost use Rattle.solver.specs.Lines.{fits, line_of, told};
 ghost use Rattle.std.specs.Prelude.{◌≡◌, length, if◌then◌else◌, Some, None, Err};
 

@@ -1,4 +1,6 @@
 // Examples of what `solver` says, and of how it is told.
+#![tactic(auto)]
+
 #[cfg(test)]
 mod tests {
     use solver::{Outcome, solve, tell};

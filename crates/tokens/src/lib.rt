@@ -12,9 +12,11 @@
 //
 // A text has at most 65,536 bytes. Byte 65,536 of a longer one is never read on: where it fits, the
 // text is refused as too long there, and where it does not, as it is at any other place.
+#![tactic(auto)]
+
 ghost use Rattle.std.specs.Prelude.{◌≡◌, ◌+◌, ◌≤◌, true, length};
 ghost use Rattle.grammar.specs.Grammar.{is_digit, is_top, is_letter, is_word};
-ghost use Rattle.grammar.specs.Reading.{byte, in_length, digits_at, literal as literal-at, word as word_at, name as name-at, numeral as numeral-at};
+ghost use Rattle.grammar.specs.Reading.{byte, in_length, digits_at, literal as literal_at, word as word_at, name as name_at, numeral as numeral_at};
 ghost use Rattle.tokens.specs.Sizes.{Counts, signed};
 ghost use Rattle.tokens.specs.Spelling.{Spells};
 ghost use Rattle.tokens.specs.Told.{Told, Part};
@@ -71,7 +73,7 @@ pub fn look(text: &[u8], at: usize) -> u16
 
 // Where the bytes of `word`, which have to stand at a place, end.
 pub fn literal(text: &[u8], word: &[u8], at: usize) -> Result<usize, Refusal>
-    ensures told { Told (λ e. e) (λ _ e. (e ≡ at + length word.now) × (at ≤ length text.now → e ≤ length text.now) × (at ≤ 65536 → e ≤ 65536)) (literal-at text.now word.now at) result }
+    ensures told { Told (λ e. e) (λ _ e. (e ≡ at + length word.now) × (at ≤ length text.now → e ≤ length text.now) × (at ≤ 65536 → e ≤ 65536)) (literal_at text.now word.now at) result }
 {
     let mut here = at;
     for c in word {
@@ -160,7 +162,7 @@ pub fn reserved_word(word: &[u8]) -> Option<Reserved>
 // Where the name that stands at a place ends. A reserved word is refused at the byte behind it, since
 // with one more letter it would be a name.
 pub fn name(text: &[u8], at: usize) -> Result<usize, Refusal>
-    ensures told { Told (λ e. e) (Part text.now at) (name-at text.now at) result }
+    ensures told { Told (λ e. e) (Part text.now at) (name_at text.now at) result }
 {
     let end = word(text, at)?;
     match reserved_word(&text[at..end]) {
@@ -196,7 +198,7 @@ fn digits(text: &[u8], at: usize, negative: bool) -> Result<Number, Refusal>
 // 0, which stands at a place, alone.
 fn nought(text: &[u8], at: usize) -> Result<Number, Refusal>
     requires { byte text.now at ≡ 48 }
-    ensures told { Told (λ p. p.end) (Counts text.now at) (numeral-at text.now at) result }
+    ensures told { Told (λ p. p.end) (Counts text.now at) (numeral_at text.now at) result }
 {
     if at == LONGEST {
         return Err(Refusal::Range(LONGEST));
@@ -215,7 +217,7 @@ fn nought(text: &[u8], at: usize) -> Result<Number, Refusal>
 // The number behind a minus, which stands at a place.
 fn behind_minus(text: &[u8], at: usize) -> Result<Number, Refusal>
     requires { byte text.now at ≡ 45 }
-    ensures told { Told (λ p. p.end) (Counts text.now at) (numeral-at text.now at) result }
+    ensures told { Told (λ p. p.end) (Counts text.now at) (numeral_at text.now at) result }
 {
     if at == LONGEST {
         return Err(Refusal::Range(LONGEST));
@@ -230,7 +232,7 @@ fn behind_minus(text: &[u8], at: usize) -> Result<Number, Refusal>
 // The number that stands at a place: 0 alone, or digits that do not begin with 0, perhaps behind a
 // minus.
 pub fn numeral(text: &[u8], at: usize) -> Result<Number, Refusal>
-    ensures told { Told (λ p. p.end) (Counts text.now at) (numeral-at text.now at) result }
+    ensures told { Told (λ p. p.end) (Counts text.now at) (numeral_at text.now at) result }
 {
     let c = look(text, at);
     if is_top(c) {

@@ -25,5 +25,5 @@ returns c =
     let is = rest_is c.args.outcome c.lay-start.new.room c.lay-start.result c.lay-start.array_long c.lay-start.ensures.bytes in
     record {
       value = ap (λ (l : List ℕ). Some (length l)) is ∙ sym (cond-true _ _ _ (fits_true c.args.outcome lent _ is c.if-printed-line.false));
-      bytes = told_whole c.args.outcome lent _ _ is c.copy-from-slice.ensures.after c.if-printed-line.false;
+      bytes = told_whole c.args.outcome lent _ _ is c.copy_from_slice.ensures.after c.if-printed-line.false;
     }

@@ -11,8 +11,8 @@ loop-at-init c =
     let l = test_inside is_digit c.args.text.now c.args.at refl (top_digit (byte c.args.text.now c.args.at) c.requires) in
     (omega arith, omega arith, λ h. absurd (omega arith), omega arith, refl, refl)
 
-pub returns-then-not-is-digit : goal.returns-then-not-is-digit
-returns-then-not-is-digit c =
+pub returns-then-not-is_digit : goal.returns-then-not-is_digit
+returns-then-not-is_digit c =
     let x = c.args.text.now in
     let at = c.args.at in
     let here = c.loop-at.here in
@@ -20,7 +20,7 @@ returns-then-not-is-digit c =
     let d = byte x at in
     let ds = digits_at x (at + 1) in
     let f = front_more is_digit x at refl (top_digit (byte c.args.text.now c.args.at) c.requires) in
-    let e = front_end is_digit x here (ap is_digit (sym c.look-c.ensures) ∙ sym c.if-not-is-digit.ensures) in
+    let e = front_end is_digit x here (ap is_digit (sym c.look-c.ensures) ∙ sym c.if-not-is_digit.ensures) in
     let i : at + 1 + length ds ≡ here = omega (arith, ap length f, ap length e, c.loop-at.invariant.4) in
     let l : at < here = omega arith in
     let z : c.loop-at.size ≡ min 1000001 c.loop-at.size = omega (arith, c.loop-at.invariant.3) in
@@ -39,11 +39,11 @@ returns-then-here-ge-LONGEST c =
     let at = c.args.at in
     let ds = digits_at x (at + 1) in
     let f = ap length (front_more is_digit x at refl (top_digit (byte c.args.text.now c.args.at) c.requires)) in
-    let m = ap length (front_more is_digit x c.loop-at.here refl (ap is_digit (sym c.look-c.ensures) ∙ sym c.if-not-is-digit.ensures)) in
+    let m = ap length (front_more is_digit x c.loop-at.here refl (ap is_digit (sym c.look-c.ensures) ∙ sym c.if-not-is_digit.ensures)) in
     record { told = in_length_past (signed c.args.negative (byte x at) ds) (at + 1 + length ds) (omega (arith, c.loop-at.invariant.4)) }
 
 found : (c : goal.After-min-size) → is_digit (byte c.args.text.now c.loop-at.here) ≡ true
-found c = ap is_digit (sym c.look-c.ensures) ∙ sym c.if-not-is-digit.ensures
+found c = ap is_digit (sym c.look-c.ensures) ∙ sym c.if-not-is_digit.ensures
 
 pub loop-at-smaller : goal.loop-at-smaller
 loop-at-smaller c = let l = test_inside is_digit c.args.text.now c.loop-at.here refl (found c) in omega arith

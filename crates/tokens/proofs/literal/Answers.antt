@@ -26,8 +26,8 @@ within c =
     let l : get_or c.args.word.now c.loop-c.c-index 0 < 256 = search rules in
     inside c.args.text.now c.loop-c.here (omega arith)
 
-pub overflow-add-here : goal.overflow-add-here
-overflow-add-here c = let i = within c in search rules
+pub overflow_add-here : goal.overflow_add-here
+overflow_add-here c = let i = within c in search rules
 
 pub loop-c-preserved : goal.loop-c-preserved
 loop-c-preserved c =

@@ -7,12 +7,12 @@ use Rattle.tokens.proofs.nought.Goals as goal
 pub returns-then-at-eq-LONGEST : goal.returns-then-at-eq-LONGEST
 returns-then-at-eq-LONGEST c = record { told = nought_past c.args.text.now c.args.at c.requires c.if-at-eq-LONGEST.true }
 
-pub overflow-add-end : goal.overflow-add-end
-overflow-add-end c = let i = inside c.args.text.now c.args.at (omega (arith, c.requires)) in search rules
+pub overflow_add-end : goal.overflow_add-end
+overflow_add-end c = let i = inside c.args.text.now c.args.at (omega (arith, c.requires)) in search rules
 
-pub returns-then-is-digit : goal.returns-then-is-digit
-returns-then-is-digit c = record {
-  told = nought_more c.args.text.now c.args.at c.requires c.if-at-eq-LONGEST.false (ap is_digit (sym c.look.ensures) ∙ sym c.if-is-digit.ensures);
+pub returns-then-is_digit : goal.returns-then-is_digit
+returns-then-is_digit c = record {
+  told = nought_more c.args.text.now c.args.at c.requires c.if-at-eq-LONGEST.false (ap is_digit (sym c.look.ensures) ∙ sym c.if-is_digit.ensures);
 }
 
 pub returns : goal.returns
@@ -21,7 +21,7 @@ returns c =
     record {
       told = (
         nought,
-        nought_alone c.args.text.now c.args.at c.requires c.if-at-eq-LONGEST.false (ap is_digit (sym c.look.ensures) ∙ sym c.if-is-digit.ensures),
+        nought_alone c.args.text.now c.args.at c.requires c.if-at-eq-LONGEST.false (ap is_digit (sym c.look.ensures) ∙ sym c.if-is_digit.ensures),
         (omega arith, omega arith, refl, refl, λ l. omega arith),
       );
     }

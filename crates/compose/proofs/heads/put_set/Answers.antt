@@ -7,10 +7,10 @@ pub returns : goal.returns
 returns c =
     let l : c.args.k < 16 = omega arith in
     record {
-      done = both_met c.args.k 16 (length c.args.words.now) c.put-head.result l c.put-head.ensures.done;
-      refused = c.put-head.ensures.refused;
-      count = λ t. counted 16 c.args.k _ l (c.put-head.ensures.count t);
-      size = λ t. ap (limited 1000) (at c.put-head.new.words ((8 + 4 * c.args.k) + 0) (8 + 4 * c.args.k) _ (omega arith) (c.put-head.ensures.here t 0 (lit< tt)));
-      name = λ t. (at c.put-head.new.words ((8 + 4 * c.args.k) + 1) (9 + 4 * c.args.k) _ (omega arith) (c.put-head.ensures.here t 1 (lit< tt)), at c.put-head.new.words ((8 + 4 * c.args.k) + 2) (10 + 4 * c.args.k) _ (omega arith) (c.put-head.ensures.here t 2 (lit< tt)));
-      others = ends_at c.args.words.now c.put-head.new.words 0 (8 + 4 * c.args.k) _ (11 + 4 * c.args.k) (omega arith) c.put-head.ensures.others;
+      done = both_met c.args.k 16 (length c.args.words.now) c.put_head.result l c.put_head.ensures.done;
+      refused = c.put_head.ensures.refused;
+      count = λ t. counted 16 c.args.k _ l (c.put_head.ensures.count t);
+      size = λ t. ap (limited 1000) (at c.put_head.new.words ((8 + 4 * c.args.k) + 0) (8 + 4 * c.args.k) _ (omega arith) (c.put_head.ensures.here t 0 (lit< tt)));
+      name = λ t. (at c.put_head.new.words ((8 + 4 * c.args.k) + 1) (9 + 4 * c.args.k) _ (omega arith) (c.put_head.ensures.here t 1 (lit< tt)), at c.put_head.new.words ((8 + 4 * c.args.k) + 2) (10 + 4 * c.args.k) _ (omega arith) (c.put_head.ensures.here t 2 (lit< tt)));
+      others = ends_at c.args.words.now c.put_head.new.words 0 (8 + 4 * c.args.k) _ (11 + 4 * c.args.k) (omega arith) c.put_head.ensures.others;
     }

@@ -6,11 +6,11 @@ use Rattle.compose.proofs.nodes.put_fixed.Goals as goal
 pub returns : goal.returns
 returns c =
     let f : SFits w64 c.args.number = c.ranges.number in
-    let e : to_z w64 c.cast-unsigned.result ≡ c.args.number = ap (to_z w64) (simp to_z-of_z at c.cast-unsigned.ensures) ∙ to_z-of_z w64 c.args.number f in
+    let e : to_z w64 c.cast_unsigned.result ≡ c.args.number = ap (to_z w64) (simp to_z-of_z at c.cast_unsigned.ensures) ∙ to_z-of_z w64 c.args.number f in
     record {
       next = c.put.ensures.next;
       refused = c.put.ensures.refused;
       below = c.put.ensures.below;
       behind = c.put.ensures.behind;
-      here = placed true (length c.args.words.now) c.args.free 2 c.put.result c.put.ensures.next c.put.ensures.here (λ _ l r h. fixed_here c.put.new.words c.args.free 1 l (rw c.put.ensures.below.long at r) c.cast-unsigned.result c.args.number refl e h);
+      here = placed true (length c.args.words.now) c.args.free 2 c.put.result c.put.ensures.next c.put.ensures.here (λ _ l r h. fixed_here c.put.new.words c.args.free 1 l (rw c.put.ensures.below.long at r) c.cast_unsigned.result c.args.number refl e h);
     }

@@ -7,7 +7,7 @@ use Rattle.compose.proofs.nodes.put_number.Goals as goal
 pub returns : goal.returns
 returns c =
     let f : SFits w64 c.args.number = c.ranges.number in
-    let e : to_z w64 c.cast-unsigned.result ≡ c.args.number = ap (to_z w64) (simp to_z-of_z at c.cast-unsigned.ensures) ∙ to_z-of_z w64 c.args.number f in
+    let e : to_z w64 c.cast_unsigned.result ≡ c.args.number = ap (to_z w64) (simp to_z-of_z at c.cast_unsigned.ensures) ∙ to_z-of_z w64 c.args.number f in
     record {
       next = c.put.ensures.next;
       refused = c.put.ensures.refused;

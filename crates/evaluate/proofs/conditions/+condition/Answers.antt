@@ -32,13 +32,13 @@ returns-else-first t c = λ d h.
     let e : Some false ≡ worked_condition s is a = ap Some (sym c.if-first.false) ∙ c.in-Some.ensures a p in
     ap (λ o. then o (λ x. cond x (worked_condition s is b) (Some false))) e ∙ sym (ap (worked_condition s is) z)
 
-pub returns-in-default : goal.returns-in-default
+pub returns-in_default : goal.returns-in_default
 unfolding worked_condition
-returns-in-default t c = λ d h.
+returns-in_default t c = λ d h.
     let s = symbols_in c.args.words.now in
     let is = c.args.indexes.now in
     let (a, b, z, p, q) = cond_fit c.args.words.now c.args.k c.in-Both.ensures d h in
-    let e : None ≡ worked_condition s is a = c.in-default.ensures a p in
+    let e : None ≡ worked_condition s is a = c.in_default.ensures a p in
     ap (λ o. then o (λ x. cond x (worked_condition s is b) (Some false))) e ∙ sym (ap (worked_condition s is) z)
 
 pub returns-in-Bad : goal.returns-in-Bad

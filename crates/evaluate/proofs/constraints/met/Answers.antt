@@ -6,12 +6,12 @@ use Rattle.model.specs.Words.{constraint_count, constraint_place}
 use Rattle.model.proofs.Trees.{constraint_kept}
 use Rattle.evaluate.proofs.constraints.met.Goals as goal
 
-pub returns-in-default : goal.returns-in-default
-returns-in-default c = record {
+pub returns-in_default : goal.returns-in_default
+returns-in_default c = record {
   beyond = λ _. refl;
   means = λ m r k h e n.
       let (l, p) = constraint_kept c.args.words.now m c.args.i r k h e in
-      let f : ◌≡◌ {A = Option ℕ} None (Some (constraint_place c.args.words.now c.args.i)) = c.in-default.ensures ∙ cond-true (ltb c.args.i (constraint_count c.args.words.now)) _ _ (lt-ltb c.args.i (constraint_count c.args.words.now) l) in
+      let f : ◌≡◌ {A = Option ℕ} None (Some (constraint_place c.args.words.now c.args.i)) = c.in_default.ensures ∙ cond-true (ltb c.args.i (constraint_count c.args.words.now)) _ _ (lt-ltb c.args.i (constraint_count c.args.words.now) l) in
       let z : ◌≡◌ {A = ℕ} 0 1 = cc in
       absurd (omega arith);
 }
@@ -29,5 +29,5 @@ returns c =
           let (l, p) = constraint_kept ws m c.args.i r k h e in
           let f : Some c.in-Some.k ≡ Some (constraint_place ws c.args.i) = c.in-Some.ensures ∙ cond-true (ltb c.args.i (constraint_count ws)) _ _ (lt-ltb c.args.i (constraint_count ws) l) in
           let g : c.in-Some.k ≡ constraint_place ws c.args.i = cc in
-          c.constraint-met.ensures r k.numbered (subst (λ j. ConstraintIn ws j r) (sym g) p) n ∙ ap (λ s. worked_constraint s (assignment c.args.values.now) [] r) (sym k.symbols);
+          c.constraint_met.ensures r k.numbered (subst (λ j. ConstraintIn ws j r) (sym g) p) n ∙ ap (λ s. worked_constraint s (assignment c.args.values.now) [] r) (sym k.symbols);
     }

@@ -11,14 +11,14 @@ pub returns-in-Fixed : goal.returns-in-Fixed
 unfolding worked_number
 returns-in-Fixed t c = λ e h.
     let f : SFits w64 c.in-Fixed.a = search rules in
-    let v : c.in-range.result ≡ checked c.in-Fixed.a = simp to_z-of_z at c.in-range.ensures.value in
+    let v : c.in_range.result ≡ checked c.in-Fixed.a = simp to_z-of_z at c.in_range.ensures.value in
     v ∙ sym (ap (worked_number (symbols_in c.args.words.now) c.args.indexes.now) (num_fit c.args.words.now c.args.k c.in-Fixed.ensures e h))
 
 pub returns-in-Index : goal.returns-in-Index
 unfolding worked_number
 returns-in-Index t c = λ e h.
     let f : SFits w64 c.index.result = search rules in
-    let v : c.in-range-in-Index.result ≡ checked c.index.result = simp to_z-of_z at c.in-range-in-Index.ensures.value in
+    let v : c.in_range-in-Index.result ≡ checked c.index.result = simp to_z-of_z at c.in_range-in-Index.ensures.value in
     v ∙ ap checked c.index.ensures
     ∙ sym (ap (worked_number (symbols_in c.args.words.now) c.args.indexes.now) (num_fit c.args.words.now c.args.k c.in-Index.ensures e h))
 

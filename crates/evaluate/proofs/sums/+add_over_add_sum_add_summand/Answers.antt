@@ -8,58 +8,58 @@ use Rattle.evaluate.proofs.Runs.{run_more, run_stays}
 use Rattle.evaluate.proofs.Working.{idle_sum}
 use Rattle.evaluate.proofs.sums.+add_over_add_sum_add_summand.Goals as goal
 
-pub add-over-returns-then-not-over-works : goal.add-over-returns-then-not-over-works
+pub add_over-returns-then-not-over_works : goal.add_over-returns-then-not-over_works
 unfolding worked_sum
-add-over-returns-then-not-over-works t c = λ d l m p q h.
+add_over-returns-then-not-over_works t c = λ d l m p q h.
     let s = symbols_in c.args.words.now in
     let x = assignment c.args.values.now in
     let is = c.args.indexes.now in
     let g = c.args.sign in
-    sym (idle_sum s x g is (sum_over c.args.over.set d l) c.args.so-far (sym (c.over_works.ensures d l p q) ∙ c.if-not-over-works.true))
+    sym (idle_sum s x g is (sum_over c.args.over.set d l) c.args.so_far (sym (c.over_works.ensures d l p q) ∙ c.if-not-over_works.true))
 
-pub add-over-loop-i-init : goal.add-over-loop-i-init
-add-over-loop-i-init t c = λ d l m p q h. unfold run in refl
+pub add_over-loop-i-init : goal.add_over-loop-i-init
+add_over-loop-i-init t c = λ d l m p q h. unfold run in refl
 
-pub add-over-returns-in-default : goal.add-over-returns-in-default
-add-over-returns-in-default t c = λ d l m p q h.
+pub add_over-returns-in_default : goal.add_over-returns-in_default
+add_over-returns-in_default t c = λ d l m p q h.
     let s = symbols_in c.args.words.now in
     let x = assignment c.args.values.now in
     let is = c.args.indexes.now in
     let g = c.args.sign in
-    let r = c.args.so-far in
+    let r = c.args.so_far in
     let i = c.loop-i.i in
     let z = c.loop-i.running in
     let f = summand s is d (λ js. worked_sum s x g js l) in
     let b : take (length is + 1 - 0) c.extended-inner.result ≡ bound is i = ap (λ n. take n c.extended-inner.result) (omega arith) ∙ c.extended-inner.ensures in
-    let e = run_more f i r z None (c.loop-i.invariant d l m p q h) (c.in-default.ensures d l m p q (omega arith) ∙ ap (λ js. where_so (worked_filter s js d) (worked_sum s x g js l z) (Some z)) b) in
-    run_stays f None (λ n. refl) (i + 1) c.set-size-i-end.result r (omega (arith, c.loop-i-test.true)) e ∙ ap (λ n. run f n r) c.set-size-i-end.ensures
+    let e = run_more f i r z None (c.loop-i.invariant d l m p q h) (c.in_default.ensures d l m p q (omega arith) ∙ ap (λ js. where_so (worked_filter s js d) (worked_sum s x g js l z) (Some z)) b) in
+    run_stays f None (λ n. refl) (i + 1) c.set_size-i-end.result r (omega (arith, c.loop-i-test.true)) e ∙ ap (λ n. run f n r) c.set_size-i-end.ensures
 
-pub add-over-loop-i-preserved : goal.add-over-loop-i-preserved
-add-over-loop-i-preserved t c = λ d l m p q h.
+pub add_over-loop-i-preserved : goal.add_over-loop-i-preserved
+add_over-loop-i-preserved t c = λ d l m p q h.
     let s = symbols_in c.args.words.now in
     let x = assignment c.args.values.now in
     let is = c.args.indexes.now in
     let g = c.args.sign in
-    let r = c.args.so-far in
+    let r = c.args.so_far in
     let i = c.loop-i.i in
     let z = c.loop-i.running in
     let f = summand s is d (λ js. worked_sum s x g js l) in
     let b : take (length is + 1 - 0) c.extended-inner.result ≡ bound is i = ap (λ n. take n c.extended-inner.result) (omega arith) ∙ c.extended-inner.ensures in
     run_more f i r z (Some c.in-Some.next) (c.loop-i.invariant d l m p q h) (c.in-Some.ensures d l m p q (omega arith) ∙ ap (λ js. where_so (worked_filter s js d) (worked_sum s x g js l z) (Some z)) b)
 
-pub add-over-returns : goal.add-over-returns
-add-over-returns t c = λ d l m p q h.
+pub add_over-returns : goal.add_over-returns
+add_over-returns t c = λ d l m p q h.
     let s = symbols_in c.args.words.now in
     let x = assignment c.args.values.now in
     let is = c.args.indexes.now in
     let g = c.args.sign in
-    let r = c.args.so-far in
-    let e : c.loop-i.i ≡ c.set-size-i-end.result = omega (arith, c.loop-i-test.false, c.loop-i.auto.i-end) in
-    c.loop-i.invariant d l m p q h ∙ ap (λ n. run (summand s is d (λ js. worked_sum s x g js l)) n r) (e ∙ c.set-size-i-end.ensures)
+    let r = c.args.so_far in
+    let e : c.loop-i.i ≡ c.set_size-i-end.result = omega (arith, c.loop-i-test.false, c.loop-i.auto.i-end) in
+    c.loop-i.invariant d l m p q h ∙ ap (λ n. run (summand s is d (λ js. worked_sum s x g js l)) n r) (e ∙ c.set_size-i-end.ensures)
 
-pub add-sum-returns-in-default : goal.add-sum-returns-in-default
+pub add_sum-returns-in_default : goal.add_sum-returns-in_default
 unfolding worked_sum sum_depth
-add-sum-returns-in-default t c = λ l m h d.
+add_sum-returns-in_default t c = λ l m h d.
     let s = symbols_in c.args.words.now in
     let x = assignment c.args.values.now in
     let is = c.args.indexes.now in
@@ -68,11 +68,11 @@ add-sum-returns-in-default t c = λ l m h d.
     let (b, i, n, e) = c.chain.invariant.1 l m h d in
     let (y, w, z, p, q) = lin_fit c.args.words.now c.chain.at c.in-Chain.ensures b i in
     let k = ap sum_depth z in
-    ap (λ o. then o (worked_sum s x g is w)) (c.in-default.ensures y m p (omega arith) ∙ ap (λ u. worked_sum s x u is y r) c.sign-under-under.ensures) ∙ sym (ap (λ v. worked_sum s x g is v r) z) ∙ e
+    ap (λ o. then o (worked_sum s x g is w)) (c.in_default.ensures y m p (omega arith) ∙ ap (λ u. worked_sum s x u is y r) c.sign_under-under.ensures) ∙ sym (ap (λ v. worked_sum s x g is v r) z) ∙ e
 
-pub add-sum-chain-preserved : goal.add-sum-chain-preserved
+pub add_sum-chain-preserved : goal.add_sum-chain-preserved
 unfolding worked_sum sum_depth
-add-sum-chain-preserved t c =
+add_sum-chain-preserved t c =
     let f = chain_below c.args.words.now c.chain.at c.in-Chain.inner c.in-Chain.t c.in-Chain.rest c.in-Chain.ensures in (
       omega (arith, f, c.chain.invariant.0),
       λ l m h d.
@@ -87,13 +87,13 @@ add-sum-chain-preserved t c =
             w,
             q,
             omega arith,
-            ap (λ o. then o (worked_sum s x g is w)) (c.in-Some.ensures y m p (omega arith) ∙ ap (λ u. worked_sum s x u is y r) c.sign-under-under.ensures) ∙ sym (ap (λ v. worked_sum s x g is v r) z) ∙ e,
+            ap (λ o. then o (worked_sum s x g is w)) (c.in-Some.ensures y m p (omega arith) ∙ ap (λ u. worked_sum s x u is y r) c.sign_under-under.ensures) ∙ sym (ap (λ v. worked_sum s x g is v r) z) ∙ e,
           ),
     )
 
-pub add-sum-returns-in-Nothing : goal.add-sum-returns-in-Nothing
+pub add_sum-returns-in-Nothing : goal.add_sum-returns-in-Nothing
 unfolding worked_sum
-add-sum-returns-in-Nothing t c = λ l m h d.
+add_sum-returns-in-Nothing t c = λ l m h d.
     let s = symbols_in c.args.words.now in
     let x = assignment c.args.values.now in
     let is = c.args.indexes.now in
@@ -102,9 +102,9 @@ add-sum-returns-in-Nothing t c = λ l m h d.
     let (b, i, n, e) = c.chain.invariant.1 l m h d in
     sym (ap (λ v. worked_sum s x g is v r) (lin_fit c.args.words.now c.chain.at c.in-Nothing.ensures b i)) ∙ e
 
-pub add-sum-returns-in-Amount : goal.add-sum-returns-in-Amount
+pub add_sum-returns-in-Amount : goal.add_sum-returns-in-Amount
 unfolding worked_sum
-add-sum-returns-in-Amount t c = λ l m h d.
+add_sum-returns-in-Amount t c = λ l m h d.
     let s = symbols_in c.args.words.now in
     let x = assignment c.args.values.now in
     let is = c.args.indexes.now in
@@ -112,10 +112,10 @@ add-sum-returns-in-Amount t c = λ l m h d.
     let r = c.chain.running in
     let (b, i, n, e) = c.chain.invariant.1 l m h d in
     let (y, z, q) = lin_fit c.args.words.now c.chain.at c.in-Amount.ensures b i in
-    c.add-amount.ensures y q ∙ sym (ap (λ v. worked_sum s x g is v r) z) ∙ e
+    c.add_amount.ensures y q ∙ sym (ap (λ v. worked_sum s x g is v r) z) ∙ e
 
-pub add-sum-returns-in-Term : goal.add-sum-returns-in-Term
-add-sum-returns-in-Term t c = λ l m h d.
+pub add_sum-returns-in-Term : goal.add_sum-returns-in-Term
+add_sum-returns-in-Term t c = λ l m h d.
     let s = symbols_in c.args.words.now in
     let x = assignment c.args.values.now in
     let is = c.args.indexes.now in
@@ -123,11 +123,11 @@ add-sum-returns-in-Term t c = λ l m h d.
     let r = c.chain.running in
     let (b, i, n, e) = c.chain.invariant.1 l m h d in
     let (y, f, j, z, p, q, w) = lin_fit c.args.words.now c.chain.at c.in-Term.ensures b i in
-    c.add-weighted.ensures y f j m p q w ∙ sym (ap (λ v. worked_sum s x g is v r) z) ∙ e
+    c.add_weighted.ensures y f j m p q w ∙ sym (ap (λ v. worked_sum s x g is v r) z) ∙ e
 
-pub add-sum-returns-in-Sum : goal.add-sum-returns-in-Sum
+pub add_sum-returns-in-Sum : goal.add_sum-returns-in-Sum
 unfolding worked_sum sum_depth
-add-sum-returns-in-Sum t c = λ l m h d.
+add_sum-returns-in-Sum t c = λ l m h d.
     let s = symbols_in c.args.words.now in
     let x = assignment c.args.values.now in
     let is = c.args.indexes.now in
@@ -136,9 +136,9 @@ add-sum-returns-in-Sum t c = λ l m h d.
     let (b, i, n, e) = c.chain.invariant.1 l m h d in
     let (y, w, z, p, q) = lin_fit c.args.words.now c.chain.at c.in-Sum.ensures b i in
     let k = ap sum_depth z in
-    c.add-over.ensures y w m p q (omega arith) ∙ sym (ap (λ v. worked_sum s x g is v r) z) ∙ e
+    c.add_over.ensures y w m p q (omega arith) ∙ sym (ap (λ v. worked_sum s x g is v r) z) ∙ e
 
-pub add-sum-returns-in-Bad : goal.add-sum-returns-in-Bad
-add-sum-returns-in-Bad t c = λ l m h d.
+pub add_sum-returns-in-Bad : goal.add_sum-returns-in-Bad
+add_sum-returns-in-Bad t c = λ l m h d.
     let (b, i, n, e) = c.chain.invariant.1 l m h d in
     absurd (lin_fit c.args.words.now c.chain.at c.in-Bad.ensures b i)

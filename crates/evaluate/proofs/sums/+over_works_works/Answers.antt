@@ -12,26 +12,26 @@ use Rattle.model.proofs.Trees.{chain_below, lin_fit}
 use Rattle.evaluate.proofs.Working.{over_works, over_empty}
 use Rattle.evaluate.proofs.sums.+over_works_works.Goals as goal
 
-pub over-works-returns-then-is-some : goal.over-works-returns-then-is-some
+pub over_works-returns-then-is_some : goal.over_works-returns-then-is_some
 unfolding sum_works
-over-works-returns-then-is-some t c = λ d a p q.
+over_works-returns-then-is_some t c = λ d a p q.
     let s = symbols_in c.args.words.now in
     let o = c.args.over.filter in
-    over_works c.args.words.now o d c.set_size.result (size_of s c.args.over.set) (sum_works s a) c.is-some.result c.set_size.ensures c.if-set-size-gt0.true p
-    (c.if-is-some.true ∙ sym (or_left (is_some o) (sum_works s a) (sym c.is-some.ensures ∙ c.if-is-some.true)))
+    over_works c.args.words.now o d c.set_size.result (size_of s c.args.over.set) (sum_works s a) c.is_some.result c.set_size.ensures c.if-set_size-gt0.true p
+    (c.if-is_some.true ∙ sym (or_left (is_some o) (sum_works s a) (sym c.is_some.ensures ∙ c.if-is_some.true)))
 
-pub over-works-returns-else-is-some : goal.over-works-returns-else-is-some
+pub over_works-returns-else-is_some : goal.over_works-returns-else-is_some
 unfolding sum_works
-over-works-returns-else-is-some t c = λ d a p q.
+over_works-returns-else-is_some t c = λ d a p q.
     let s = symbols_in c.args.words.now in
-    over_works c.args.words.now c.args.over.filter d c.set_size.result (size_of s c.args.over.set) (sum_works s a) c.works.result c.set_size.ensures c.if-set-size-gt0.true p
-    (c.works.ensures a q ∙ ap (λ y. y || sum_works s a) (sym c.if-is-some.false ∙ c.is-some.ensures))
+    over_works c.args.words.now c.args.over.filter d c.set_size.result (size_of s c.args.over.set) (sum_works s a) c.works.result c.set_size.ensures c.if-set_size-gt0.true p
+    (c.works.ensures a q ∙ ap (λ y. y || sum_works s a) (sym c.if-is_some.false ∙ c.is_some.ensures))
 
-pub over-works-returns-else-set-size-gt0 : goal.over-works-returns-else-set-size-gt0
+pub over_works-returns-else-set_size-gt0 : goal.over_works-returns-else-set_size-gt0
 unfolding sum_works
-over-works-returns-else-set-size-gt0 t c = λ d a p q.
+over_works-returns-else-set_size-gt0 t c = λ d a p q.
     let s = symbols_in c.args.words.now in
-    over_empty d c.set_size.result (size_of s c.args.over.set) (sum_works s a) c.set_size.ensures c.if-set-size-gt0.false
+    over_empty d c.set_size.result (size_of s c.args.over.set) (sum_works s a) c.set_size.ensures c.if-set_size-gt0.false
 
 pub works-returns-then-works : goal.works-returns-then-works
 unfolding sum_works
@@ -78,4 +78,4 @@ plain ws k n e w l h =
 pub works-returns-in-Amount : goal.works-returns-in-Amount
 works-returns-in-Amount t c = λ l h.
     let (b, i, e) = c.chain.invariant.1 l h in
-    plain c.args.words.now c.chain.at c.lin-node.result c.lin-node.ensures c.in-Amount.is b i ∙ e
+    plain c.args.words.now c.chain.at c.lin_node.result c.lin_node.ensures c.in-Amount.is b i ∙ e

@@ -8,8 +8,8 @@ use Rattle.evaluate.proofs.sums.+over_works_works.Given as goal
 abbrev pub decreases-works : goal.decreases-works
 decreases-works l = 2 * l.k
 
-abbrev pub decreases-over-works : goal.decreases-over-works
-decreases-over-works l = 2 * l.over.body + 1
+abbrev pub decreases-over_works : goal.decreases-over_works
+decreases-over_works l = 2 * l.over.body + 1
 
 -- what is left works exactly if all does
 abbrev pub invariant-works-chain : goal.invariant-works-chain

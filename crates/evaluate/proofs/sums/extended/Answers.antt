@@ -4,4 +4,4 @@ use Rattle.evaluate.proofs.Indexes.{put_behind}
 use Rattle.evaluate.proofs.sums.extended.Goals as goal
 
 pub returns : goal.returns
-returns c = rw (c.copy-from-slice.ensures.after, add-one) (put_behind c.args.indexes.now _ c.args.i (simp (post_of, length-drop) (omega arith)))
+returns c = rw (c.copy_from_slice.ensures.after, add-one) (put_behind c.args.indexes.now _ c.args.i (simp (post_of, length-drop) (omega arith)))

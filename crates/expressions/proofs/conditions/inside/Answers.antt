@@ -12,6 +12,6 @@ returns c =
     let w = part x c.args.index in
     let l = lt-ltb s.count 56 c.requires.room in
     record {
-      names = c.with-name.ensures.names x ∙ cond-true (ltb s.count 56) _ _ l ∙ ap (λ (k : ℕ). (record { word = w; sort = an_index k }) ∷ ns) (c.indexes-level.ensures x);
-      count = c.with-name.ensures.count ∙ cond-true (ltb s.count 56) _ _ l;
+      names = c.with_name.ensures.names x ∙ cond-true (ltb s.count 56) _ _ l ∙ ap (λ (k : ℕ). (record { word = w; sort = an_index k }) ∷ ns) (c.indexes-level.ensures x);
+      count = c.with_name.ensures.count ∙ cond-true (ltb s.count 56) _ _ l;
     }

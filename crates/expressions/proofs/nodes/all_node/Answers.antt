@@ -8,5 +8,5 @@ returns c =
     record {
       next = some_is _ _ _ k.next;
       kept = k.below;
-      tree = λ d a p q. all_tree c.args.words.now c.put-all.new.words c.args.free c.requires.room.0 k.below c.args.over d p a q k.here;
+      tree = λ d a p q. all_tree c.args.words.now c.put_all.new.words c.args.free c.requires.room.0 k.below c.args.over d p a q k.here;
     }

@@ -8,5 +8,5 @@ returns c =
     record {
       next = some_is _ _ _ k.next;
       kept = k.below;
-      tree = λ e f p q. chain_tree c.args.words.now c.put-chain.new.words c.args.free c.requires.room.0 k.below c.args.left c.args.right e f p q c.args.sign k.here;
+      tree = λ e f p q. chain_tree c.args.words.now c.put_chain.new.words c.args.free c.requires.room.0 k.below c.args.left c.args.right e f p q c.args.sign k.here;
     }

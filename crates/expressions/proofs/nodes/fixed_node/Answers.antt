@@ -10,5 +10,5 @@ returns c =
     record {
       next = some_is _ _ _ k.next;
       kept = k.below;
-      tree = fixed_tree c.args.words.now c.put-fixed.new.words c.args.free c.requires.room.0 k.below c.args.number (simp to_z-of_z at k.here);
+      tree = fixed_tree c.args.words.now c.put_fixed.new.words c.args.free c.requires.room.0 k.below c.args.number (simp to_z-of_z at k.here);
     }

@@ -8,5 +8,5 @@ returns c =
     record {
       next = some_is _ _ _ k.next;
       kept = k.below;
-      tree = index_tree c.args.words.now c.put-index.new.words c.args.free c.requires.room.0 k.below c.args.level k.here;
+      tree = index_tree c.args.words.now c.put_index.new.words c.args.free c.requires.room.0 k.below c.args.level k.here;
     }

@@ -8,5 +8,5 @@ returns c =
     record {
       next = some_is _ _ _ k.next;
       kept = k.below;
-      tree = λ e f p q. joined_tree c.args.words.now c.put-operation.new.words c.args.free c.requires.room.0 k.below c.args.left c.args.right e f p q c.args.operator k.here;
+      tree = λ e f p q. joined_tree c.args.words.now c.put_operation.new.words c.args.free c.requires.room.0 k.below c.args.left c.args.right e f p q c.args.operator k.here;
     }

@@ -8,5 +8,5 @@ returns c =
     record {
       next = some_is _ _ _ k.next;
       kept = k.below;
-      tree = λ e f g p q r. term_tree c.args.words.now c.put-term.new.words c.args.free c.requires.room.0 k.below c.args.term e f g p q r k.here;
+      tree = λ e f g p q r. term_tree c.args.words.now c.put_term.new.words c.args.free c.requires.room.0 k.below c.args.term e f g p q r k.here;
     }

@@ -11,15 +11,15 @@ use Rattle.expressions.proofs.Ways.{num_pair, num_fixed, num_named, placed, plac
 use Rattle.expressions.proofs.NumberTrees.{agree_more, index_made, entry_made, joined_made, only_made, both_made, second_made, only_end}
 use Rattle.expressions.proofs.numbers.+named_number_pair_places_second_place.Goals as goal
 
-pub named-returns-in-default : goal.named-returns-in-default
-named-returns-in-default t c =
+pub named-returns-in_default : goal.named-returns-in_default
+named-returns-in_default t c =
     let x = c.args.text.now in
     let ns = names_in x c.args.scope.now in
     let left = c.args.left in
     let inner = num x ns (left - 1) in
     let name = c.args.name in
     let w = part x name in
-    record { told = named_no_index x ns left inner name.begin w name.end (λ e. c.if-look-ne91.true (c.look.ensures ∙ e)) c.in-default.ensures; kept = agree_self _ _ _ }
+    record { told = named_no_index x ns left inner name.begin w name.end (λ e. c.if-look-ne91.true (c.look.ensures ∙ e)) c.in_default.ensures; kept = agree_self _ _ _ }
 
 pub named-returns-then-look-ne91 : goal.named-returns-then-look-ne91
 named-returns-then-look-ne91 t c =
@@ -30,38 +30,38 @@ named-returns-then-look-ne91 t c =
     let name = c.args.name in
     let w = part x name in
     let f = c.in-Some.ensures in
-    let k = c.index-node-next.ensures in
+    let k = c.index_node-next.ensures in
     record {
       told = (
         index w,
         named_index x ns left inner name.begin w name.end c.in-Some.level (λ e. c.if-look-ne91.true (c.look.ensures ∙ e)) f,
-        index_made x c.args.words.now c.index-node-next.new.words name c.args.free c.index-node-next.result c.in-Some.level ns w c.requires.name.0 c.requires.name.1 c.requires.room.0 c.requires.room.1 f k.next k.tree,
+        index_made x c.args.words.now c.index_node-next.new.words name c.args.free c.index_node-next.result c.in-Some.level ns w c.requires.name.0 c.requires.name.1 c.requires.room.0 c.requires.room.1 f k.next k.tree,
       );
       kept = k.kept;
     }
 
-pub named-returns-in-default-find-table : goal.named-returns-in-default-find-table
-named-returns-in-default-find-table t c =
+pub named-returns-in_default-find_table : goal.named-returns-in_default-find_table
+named-returns-in_default-find_table t c =
     let x = c.args.text.now in
     let ns = names_in x c.args.scope.now in
     let left = c.args.left in
     let inner = num x ns (left - 1) in
     let name = c.args.name in
     let w = part x name in
-    record { told = named_no_table x ns left inner name.begin w name.end (sym c.look.ensures ∙ c.if-look-ne91.false) c.in-default-find-table.ensures; kept = agree_self _ _ _ }
+    record { told = named_no_table x ns left inner name.begin w name.end (sym c.look.ensures ∙ c.if-look-ne91.false) c.in_default-find_table.ensures; kept = agree_self _ _ _ }
 
-pub named-returns-in-err-cell : goal.named-returns-in-err-cell
-named-returns-in-err-cell t c =
+pub named-returns-in_err-cell : goal.named-returns-in_err-cell
+named-returns-in_err-cell t c =
     let x = c.args.text.now in
     let ns = names_in x c.args.scope.now in
     let left = c.args.left in
     let inner = num x ns (left - 1) in
     let name = c.args.name in
     let w = part x name in
-    let g = c.in-Some-find-table.table in
-    let f = c.in-Some-find-table.ensures in
+    let g = c.in-Some-find_table.table in
+    let f = c.in-Some-find_table.ensures in
     let way = named_table x ns left inner name.begin w name.end g (sym c.look.ensures ∙ c.if-look-ne91.false) f in
-    record { told = told_exit _ _ _ _ c.from-residual.result c.from-residual.ensures.1 (way ∙ then_bad _ c.in-err-cell.ensures.told); kept = c.places.ensures.kept }
+    record { told = told_exit _ _ _ _ c.from_residual.result c.from_residual.ensures.1 (way ∙ then_bad _ c.in_err-cell.ensures.told); kept = c.places.ensures.kept }
 
 pub named-returns : goal.named-returns
 named-returns t c =
@@ -71,18 +71,18 @@ named-returns t c =
     let inner = num x ns (left - 1) in
     let name = c.args.name in
     let w = part x name in
-    let g = c.in-Some-find-table.table in
-    let f = c.in-Some-find-table.ensures in
+    let g = c.in-Some-find_table.table in
+    let f = c.in-Some-find_table.ensures in
     let way = named_table x ns left inner name.begin w name.end g (sym c.look.ensures ∙ c.if-look-ne91.false) f in
-    let (l, h, p) = c.in-ok-cell.ensures.told in
-    let k = c.entry-node-next.ensures in
+    let (l, h, p) = c.in_ok-cell.ensures.told in
+    let k = c.entry_node-next.ensures in
     record {
       told = (
         placed (entry1 w) (entry2 w) l,
         way ∙ then_ok _ h,
-        entry_made x c.args.words.now c.places.new.words c.entry-node-next.new.words name c.args.free c.entry-node-next.result ns w g l c.in-ok-cell.cell c.requires.name.0 c.requires.room.1 f p k.next k.tree,
+        entry_made x c.args.words.now c.places.new.words c.entry_node-next.new.words name c.args.free c.entry_node-next.result ns w g l c.in_ok-cell.cell c.requires.name.0 c.requires.room.1 f p k.next k.tree,
       );
-      kept = agree_more c.args.free c.in-ok-cell.cell.next c.args.words.now c.places.new.words c.entry-node-next.new.words p.forward c.places.ensures.kept k.kept;
+      kept = agree_more c.args.free c.in_ok-cell.cell.next c.args.words.now c.places.new.words c.entry_node-next.new.words p.forward c.places.ensures.kept k.kept;
     }
 
 pub number-returns-then-c-eq40 : goal.number-returns-then-c-eq40
@@ -93,26 +93,26 @@ number-returns-then-c-eq40 t c =
     let inner = num x ns (left - 1) in
     record { told = told_on _ _ _ _ _ c.pair.result (num_pair x ns left c.args.at (sym c.look-c.ensures ∙ c.if-c-eq40.true)) (λ e r p. p) c.pair.ensures.told; kept = c.pair.ensures.kept }
 
-pub number-returns-then-not-is-letter : goal.number-returns-then-not-is-letter
-number-returns-then-not-is-letter t c =
+pub number-returns-then-not-is_letter : goal.number-returns-then-not-is_letter
+number-returns-then-not-is_letter t c =
     let x = c.args.text.now in
     let ns = names_in x c.args.scope.now in
     let left = c.args.left in
     let inner = num x ns (left - 1) in
     record {
       told = told_on _ _ _ _ _ c.fixed.result
-          (num_fixed x ns left c.args.at (λ e. c.if-c-eq40.false (c.look-c.ensures ∙ e)) (ap is_letter (sym c.look-c.ensures) ∙ sym c.if-not-is-letter.ensures)) (λ e r p. p) (c.fixed.ensures.told ns);
+          (num_fixed x ns left c.args.at (λ e. c.if-c-eq40.false (c.look-c.ensures ∙ e)) (ap is_letter (sym c.look-c.ensures) ∙ sym c.if-not-is_letter.ensures)) (λ e r p. p) (c.fixed.ensures.told ns);
       kept = c.fixed.ensures.kept;
     }
 
-pub number-returns-in-err-end : goal.number-returns-in-err-end
-number-returns-in-err-end t c =
+pub number-returns-in_err-end : goal.number-returns-in_err-end
+number-returns-in_err-end t c =
     let x = c.args.text.now in
     let ns = names_in x c.args.scope.now in
     let left = c.args.left in
     let inner = num x ns (left - 1) in
-    let way = num_named x ns left c.args.at (λ e. c.if-c-eq40.false (c.look-c.ensures ∙ e)) (ap is_letter (sym c.look-c.ensures) ∙ sym c.if-not-is-letter.ensures) in
-    record { told = told_exit _ _ _ _ c.from-residual.result c.from-residual.ensures.1 (way ∙ then_bad _ c.in-err-end.ensures.told); kept = agree_self _ _ _ }
+    let way = num_named x ns left c.args.at (λ e. c.if-c-eq40.false (c.look-c.ensures ∙ e)) (ap is_letter (sym c.look-c.ensures) ∙ sym c.if-not-is_letter.ensures) in
+    record { told = told_exit _ _ _ _ c.from_residual.result c.from_residual.ensures.1 (way ∙ then_bad _ c.in_err-end.ensures.told); kept = agree_self _ _ _ }
 
 pub number-returns : goal.number-returns
 number-returns t c =
@@ -120,10 +120,10 @@ number-returns t c =
     let ns = names_in x c.args.scope.now in
     let left = c.args.left in
     let inner = num x ns (left - 1) in
-    let way = num_named x ns left c.args.at (λ e. c.if-c-eq40.false (c.look-c.ensures ∙ e)) (ap is_letter (sym c.look-c.ensures) ∙ sym c.if-not-is-letter.ensures) in
-    let (w, h, p) = c.in-ok-end.ensures.told in
+    let way = num_named x ns left c.args.at (λ e. c.if-c-eq40.false (c.look-c.ensures ∙ e)) (ap is_letter (sym c.look-c.ensures) ∙ sym c.if-not-is_letter.ensures) in
+    let (w, h, p) = c.in_ok-end.ensures.told in
     record {
-      told = told_on _ _ _ _ _ c.named.result (way ∙ then_ok _ h ∙ ap (λ v. named x ns left inner c.args.at v c.in-ok-end.end) p.2) (λ e r q. q) c.named.ensures.told;
+      told = told_on _ _ _ _ _ c.named.result (way ∙ then_ok _ h ∙ ap (λ v. named x ns left inner c.args.at v c.in_ok-end.end) p.2) (λ e r q. q) c.named.ensures.told;
       kept = c.named.ensures.kept;
     }
 
@@ -136,96 +136,96 @@ pair-returns-then-left-eq0 t c =
     let inner = num x ns (left - 1) in
     record { told = cond-true (eqb left 0) _ _ (eq-eqb left 0 c.if-left-eq0.true); kept = agree_self _ _ _ }
 
-pub pair-returns-in-err-inside : goal.pair-returns-in-err-inside
+pub pair-returns-in_err-inside : goal.pair-returns-in_err-inside
 unfolding pair
-pair-returns-in-err-inside t c =
+pair-returns-in_err-inside t c =
     let x = c.args.text.now in
     let ns = names_in x c.args.scope.now in
     let left = c.args.left in
     let inner = num x ns (left - 1) in
     let d = cond-false (eqb left 0) _ _ (ne_eqb left 0 c.if-left-eq0.false) in
-    record { told = told_exit _ _ _ _ c.from-residual.result c.from-residual.ensures.1 (d ∙ then_bad _ c.in-err-inside.ensures.told); kept = agree_self _ _ _ }
+    record { told = told_exit _ _ _ _ c.from_residual.result c.from_residual.ensures.1 (d ∙ then_bad _ c.in_err-inside.ensures.told); kept = agree_self _ _ _ }
 
-pub pair-returns-in-err-first : goal.pair-returns-in-err-first
+pub pair-returns-in_err-first : goal.pair-returns-in_err-first
 unfolding pair
-pair-returns-in-err-first t c =
+pair-returns-in_err-first t c =
     let x = c.args.text.now in
     let ns = names_in x c.args.scope.now in
     let left = c.args.left in
     let inner = num x ns (left - 1) in
     let d = cond-false (eqb left 0) _ _ (ne_eqb left 0 c.if-left-eq0.false) in
-    let (a-inside, h-inside, p-inside) = c.in-ok-inside.ensures.told in
-    record { told = told_exit _ _ _ _ c.from-residual-in-err-first.result c.from-residual-in-err-first.ensures.1 (d ∙ then_ok _ h-inside ∙ then_bad _ c.in-err-first.ensures.told); kept = c.number.ensures.kept }
+    let (a-inside, h-inside, p-inside) = c.in_ok-inside.ensures.told in
+    record { told = told_exit _ _ _ _ c.from_residual-in_err-first.result c.from_residual-in_err-first.ensures.1 (d ∙ then_ok _ h-inside ∙ then_bad _ c.in_err-first.ensures.told); kept = c.number.ensures.kept }
 
-pub pair-returns-in-err-sign : goal.pair-returns-in-err-sign
+pub pair-returns-in_err-sign : goal.pair-returns-in_err-sign
 unfolding pair
-pair-returns-in-err-sign t c =
+pair-returns-in_err-sign t c =
     let x = c.args.text.now in
     let ns = names_in x c.args.scope.now in
     let left = c.args.left in
     let inner = num x ns (left - 1) in
     let d = cond-false (eqb left 0) _ _ (ne_eqb left 0 c.if-left-eq0.false) in
-    let (a-inside, h-inside, p-inside) = c.in-ok-inside.ensures.told in
-    let (a_first, h-first, p-first) = c.in-ok-first.ensures.told in
-    record { told = told_exit _ _ _ _ c.from-residual-in-err-sign.result c.from-residual-in-err-sign.ensures.1 (d ∙ then_ok _ h-inside ∙ then_ok _ h-first ∙ then_bad _ c.in-err-sign.ensures.told); kept = c.number.ensures.kept }
+    let (a-inside, h-inside, p-inside) = c.in_ok-inside.ensures.told in
+    let (a_first, h-first, p-first) = c.in_ok-first.ensures.told in
+    record { told = told_exit _ _ _ _ c.from_residual-in_err-sign.result c.from_residual-in_err-sign.ensures.1 (d ∙ then_ok _ h-inside ∙ then_ok _ h-first ∙ then_bad _ c.in_err-sign.ensures.told); kept = c.number.ensures.kept }
 
-pub pair-returns-in-err-joined : goal.pair-returns-in-err-joined
+pub pair-returns-in_err-joined : goal.pair-returns-in_err-joined
 unfolding pair
-pair-returns-in-err-joined t c =
+pair-returns-in_err-joined t c =
     let x = c.args.text.now in
     let ns = names_in x c.args.scope.now in
     let left = c.args.left in
     let inner = num x ns (left - 1) in
     let d = cond-false (eqb left 0) _ _ (ne_eqb left 0 c.if-left-eq0.false) in
-    let (a-inside, h-inside, p-inside) = c.in-ok-inside.ensures.told in
-    let (a_first, h-first, p-first) = c.in-ok-first.ensures.told in
-    let (a-sign, h-sign, p-sign) = c.in-ok-sign.ensures.told in
-    record { told = told_exit _ _ _ _ c.from-residual-in-err-joined.result c.from-residual-in-err-joined.ensures.1 (d ∙ then_ok _ h-inside ∙ then_ok _ h-first ∙ then_ok _ h-sign ∙ then_bad _ c.in-err-joined.ensures.told); kept = c.number.ensures.kept }
+    let (a-inside, h-inside, p-inside) = c.in_ok-inside.ensures.told in
+    let (a_first, h-first, p-first) = c.in_ok-first.ensures.told in
+    let (a-sign, h-sign, p-sign) = c.in_ok-sign.ensures.told in
+    record { told = told_exit _ _ _ _ c.from_residual-in_err-joined.result c.from_residual-in_err-joined.ensures.1 (d ∙ then_ok _ h-inside ∙ then_ok _ h-first ∙ then_ok _ h-sign ∙ then_bad _ c.in_err-joined.ensures.told); kept = c.number.ensures.kept }
 
-pub pair-returns-in-err-here : goal.pair-returns-in-err-here
+pub pair-returns-in_err-here : goal.pair-returns-in_err-here
 unfolding pair
-pair-returns-in-err-here t c =
+pair-returns-in_err-here t c =
     let x = c.args.text.now in
     let ns = names_in x c.args.scope.now in
     let left = c.args.left in
     let inner = num x ns (left - 1) in
     let d = cond-false (eqb left 0) _ _ (ne_eqb left 0 c.if-left-eq0.false) in
-    let (a-inside, h-inside, p-inside) = c.in-ok-inside.ensures.told in
-    let (a_first, h-first, p-first) = c.in-ok-first.ensures.told in
-    let (a-sign, h-sign, p-sign) = c.in-ok-sign.ensures.told in
-    let (a-joined, h-joined, p-joined) = c.in-ok-joined.ensures.told in
-    record { told = told_exit _ _ _ _ c.from-residual-in-err-here.result c.from-residual-in-err-here.ensures.1 (d ∙ then_ok _ h-inside ∙ then_ok _ h-first ∙ then_ok _ h-sign ∙ then_ok _ h-joined ∙ then_bad _ c.in-err-here.ensures.told); kept = c.number.ensures.kept }
+    let (a-inside, h-inside, p-inside) = c.in_ok-inside.ensures.told in
+    let (a_first, h-first, p-first) = c.in_ok-first.ensures.told in
+    let (a-sign, h-sign, p-sign) = c.in_ok-sign.ensures.told in
+    let (a-joined, h-joined, p-joined) = c.in_ok-joined.ensures.told in
+    record { told = told_exit _ _ _ _ c.from_residual-in_err-here.result c.from_residual-in_err-here.ensures.1 (d ∙ then_ok _ h-inside ∙ then_ok _ h-first ∙ then_ok _ h-sign ∙ then_ok _ h-joined ∙ then_bad _ c.in_err-here.ensures.told); kept = c.number.ensures.kept }
 
-pub pair-returns-in-err-second : goal.pair-returns-in-err-second
+pub pair-returns-in_err-second : goal.pair-returns-in_err-second
 unfolding pair
-pair-returns-in-err-second t c =
+pair-returns-in_err-second t c =
     let x = c.args.text.now in
     let ns = names_in x c.args.scope.now in
     let left = c.args.left in
     let inner = num x ns (left - 1) in
     let d = cond-false (eqb left 0) _ _ (ne_eqb left 0 c.if-left-eq0.false) in
-    let (a-inside, h-inside, p-inside) = c.in-ok-inside.ensures.told in
-    let (a_first, h-first, p-first) = c.in-ok-first.ensures.told in
-    let (a-sign, h-sign, p-sign) = c.in-ok-sign.ensures.told in
-    let (a-joined, h-joined, p-joined) = c.in-ok-joined.ensures.told in
-    let (a-here, h-here, p-here) = c.in-ok-here.ensures.told in
-    record { told = told_exit _ _ _ _ c.from-residual-in-err-second.result c.from-residual-in-err-second.ensures.1 (d ∙ then_ok _ h-inside ∙ then_ok _ h-first ∙ then_ok _ h-sign ∙ then_ok _ h-joined ∙ then_ok _ h-here ∙ then_bad _ c.in-err-second.ensures.told); kept = agree_more c.args.free c.in-ok-first.first.next c.args.words.now c.number.new.words c.number-2.new.words p-first.forward c.number.ensures.kept c.number-2.ensures.kept }
+    let (a-inside, h-inside, p-inside) = c.in_ok-inside.ensures.told in
+    let (a_first, h-first, p-first) = c.in_ok-first.ensures.told in
+    let (a-sign, h-sign, p-sign) = c.in_ok-sign.ensures.told in
+    let (a-joined, h-joined, p-joined) = c.in_ok-joined.ensures.told in
+    let (a-here, h-here, p-here) = c.in_ok-here.ensures.told in
+    record { told = told_exit _ _ _ _ c.from_residual-in_err-second.result c.from_residual-in_err-second.ensures.1 (d ∙ then_ok _ h-inside ∙ then_ok _ h-first ∙ then_ok _ h-sign ∙ then_ok _ h-joined ∙ then_ok _ h-here ∙ then_bad _ c.in_err-second.ensures.told); kept = agree_more c.args.free c.in_ok-first.first.next c.args.words.now c.number.new.words c.number-2.new.words p-first.forward c.number.ensures.kept c.number-2.ensures.kept }
 
-pub pair-returns-in-err-end : goal.pair-returns-in-err-end
+pub pair-returns-in_err-end : goal.pair-returns-in_err-end
 unfolding pair
-pair-returns-in-err-end t c =
+pair-returns-in_err-end t c =
     let x = c.args.text.now in
     let ns = names_in x c.args.scope.now in
     let left = c.args.left in
     let inner = num x ns (left - 1) in
     let d = cond-false (eqb left 0) _ _ (ne_eqb left 0 c.if-left-eq0.false) in
-    let (a-inside, h-inside, p-inside) = c.in-ok-inside.ensures.told in
-    let (a_first, h-first, p-first) = c.in-ok-first.ensures.told in
-    let (a-sign, h-sign, p-sign) = c.in-ok-sign.ensures.told in
-    let (a-joined, h-joined, p-joined) = c.in-ok-joined.ensures.told in
-    let (a-here, h-here, p-here) = c.in-ok-here.ensures.told in
-    let (a_second, h-second, p-second) = c.in-ok-second.ensures.told in
-    record { told = told_exit _ _ _ _ c.from-residual-in-err-end.result c.from-residual-in-err-end.ensures.1 (d ∙ then_ok _ h-inside ∙ then_ok _ h-first ∙ then_ok _ h-sign ∙ then_ok _ h-joined ∙ then_ok _ h-here ∙ then_ok _ h-second ∙ then_bad _ c.in-err-end.ensures.told); kept = agree_more c.args.free c.in-ok-first.first.next c.args.words.now c.number.new.words c.number-2.new.words p-first.forward c.number.ensures.kept c.number-2.ensures.kept }
+    let (a-inside, h-inside, p-inside) = c.in_ok-inside.ensures.told in
+    let (a_first, h-first, p-first) = c.in_ok-first.ensures.told in
+    let (a-sign, h-sign, p-sign) = c.in_ok-sign.ensures.told in
+    let (a-joined, h-joined, p-joined) = c.in_ok-joined.ensures.told in
+    let (a-here, h-here, p-here) = c.in_ok-here.ensures.told in
+    let (a_second, h-second, p-second) = c.in_ok-second.ensures.told in
+    record { told = told_exit _ _ _ _ c.from_residual-in_err-end.result c.from_residual-in_err-end.ensures.1 (d ∙ then_ok _ h-inside ∙ then_ok _ h-first ∙ then_ok _ h-sign ∙ then_ok _ h-joined ∙ then_ok _ h-here ∙ then_ok _ h-second ∙ then_bad _ c.in_err-end.ensures.told); kept = agree_more c.args.free c.in_ok-first.first.next c.args.words.now c.number.new.words c.number-2.new.words p-first.forward c.number.ensures.kept c.number-2.ensures.kept }
 
 pub pair-returns : goal.pair-returns
 unfolding pair
@@ -235,23 +235,23 @@ pair-returns t c =
     let left = c.args.left in
     let inner = num x ns (left - 1) in
     let d = cond-false (eqb left 0) _ _ (ne_eqb left 0 c.if-left-eq0.false) in
-    let (a-inside, h-inside, p-inside) = c.in-ok-inside.ensures.told in
-    let (a_first, h-first, p-first) = c.in-ok-first.ensures.told in
-    let (a-sign, h-sign, p-sign) = c.in-ok-sign.ensures.told in
-    let (a-joined, h-joined, p-joined) = c.in-ok-joined.ensures.told in
-    let (a-here, h-here, p-here) = c.in-ok-here.ensures.told in
-    let (a_second, h-second, p-second) = c.in-ok-second.ensures.told in
-    let (a-end, h-end, p-end) = c.in-ok-end.ensures.told in
-    let k = c.operation-node-next.ensures in
+    let (a-inside, h-inside, p-inside) = c.in_ok-inside.ensures.told in
+    let (a_first, h-first, p-first) = c.in_ok-first.ensures.told in
+    let (a-sign, h-sign, p-sign) = c.in_ok-sign.ensures.told in
+    let (a-joined, h-joined, p-joined) = c.in_ok-joined.ensures.told in
+    let (a-here, h-here, p-here) = c.in_ok-here.ensures.told in
+    let (a_second, h-second, p-second) = c.in_ok-second.ensures.told in
+    let (a-end, h-end, p-end) = c.in_ok-end.ensures.told in
+    let k = c.operation_node-next.ensures in
     record {
       told = (
-        joined c.in-ok-joined.joined a_first a_second,
-        d ∙ then_ok _ h-inside ∙ then_ok _ h-first ∙ then_ok _ h-sign ∙ then_ok _ h-joined ∙ then_ok _ h-here ∙ then_ok _ h-second ∙ then_ok _ h-end ∙ ap (λ o. ok (joined o a_first a_second) c.in-ok-end.end) p-joined.0,
-        joined_made x c.args.words.now c.number.new.words c.number-2.new.words c.operation-node-next.new.words c.args.at c.in-ok-inside.inside c.in-ok-here.here c.in-ok-end.end c.args.free
-            c.operation-node-next.result ns c.in-ok-joined.joined a_first a_second c.in-ok-first.first c.in-ok-second.second (omega arith) (omega arith) (omega arith) (p-end.1 p-second.inside) (p-end.2 p-second.short) (omega arith) k.next c.number-2.ensures.kept c.requires.room.1 c.number.ensures.kept p-first p-second k.tree,
+        joined c.in_ok-joined.joined a_first a_second,
+        d ∙ then_ok _ h-inside ∙ then_ok _ h-first ∙ then_ok _ h-sign ∙ then_ok _ h-joined ∙ then_ok _ h-here ∙ then_ok _ h-second ∙ then_ok _ h-end ∙ ap (λ o. ok (joined o a_first a_second) c.in_ok-end.end) p-joined.0,
+        joined_made x c.args.words.now c.number.new.words c.number-2.new.words c.operation_node-next.new.words c.args.at c.in_ok-inside.inside c.in_ok-here.here c.in_ok-end.end c.args.free
+            c.operation_node-next.result ns c.in_ok-joined.joined a_first a_second c.in_ok-first.first c.in_ok-second.second (omega arith) (omega arith) (omega arith) (p-end.1 p-second.inside) (p-end.2 p-second.short) (omega arith) k.next c.number-2.ensures.kept c.requires.room.1 c.number.ensures.kept p-first p-second k.tree,
       );
-      kept = agree_more c.args.free c.in-ok-second.second.next c.args.words.now c.number-2.new.words c.operation-node-next.new.words (omega arith)
-          (agree_more c.args.free c.in-ok-first.first.next c.args.words.now c.number.new.words c.number-2.new.words p-first.forward c.number.ensures.kept c.number-2.ensures.kept) k.kept;
+      kept = agree_more c.args.free c.in_ok-second.second.next c.args.words.now c.number-2.new.words c.operation_node-next.new.words (omega arith)
+          (agree_more c.args.free c.in_ok-first.first.next c.args.words.now c.number.new.words c.number-2.new.words p-first.forward c.number.ensures.kept c.number-2.ensures.kept) k.kept;
     }
 
 pub places-returns-then-look-ne91 : goal.places-returns-then-look-ne91
@@ -276,8 +276,8 @@ places-returns-then-left-eq0 t c =
     let at = c.args.at in
     record { told = place_deep x (enough g) start left inner at (sym c.look.ensures ∙ c.if-look-ne91.false) c.if-left-eq0.true; kept = agree_self _ _ _ }
 
-pub places-returns-in-err-inside : goal.places-returns-in-err-inside
-places-returns-in-err-inside t c =
+pub places-returns-in_err-inside : goal.places-returns-in_err-inside
+places-returns-in_err-inside t c =
     let x = c.args.text.now in
     let ns = names_in x c.args.scope.now in
     let left = c.args.left in
@@ -286,10 +286,10 @@ places-returns-in-err-inside t c =
     let start = c.args.start in
     let at = c.args.at in
     let way = place_open x (enough g) start left inner at (sym c.look.ensures ∙ c.if-look-ne91.false) c.if-left-eq0.false in
-    record { told = told_exit _ _ _ _ c.from-residual.result c.from-residual.ensures.1 (way ∙ then_bad _ c.in-err-inside.ensures.told); kept = agree_self _ _ _ }
+    record { told = told_exit _ _ _ _ c.from_residual.result c.from_residual.ensures.1 (way ∙ then_bad _ c.in_err-inside.ensures.told); kept = agree_self _ _ _ }
 
-pub places-returns-in-err-first : goal.places-returns-in-err-first
-places-returns-in-err-first t c =
+pub places-returns-in_err-first : goal.places-returns-in_err-first
+places-returns-in_err-first t c =
     let x = c.args.text.now in
     let ns = names_in x c.args.scope.now in
     let left = c.args.left in
@@ -298,11 +298,11 @@ places-returns-in-err-first t c =
     let start = c.args.start in
     let at = c.args.at in
     let way = place_open x (enough g) start left inner at (sym c.look.ensures ∙ c.if-look-ne91.false) c.if-left-eq0.false in
-    let (a-inside, h-inside, p-inside) = c.in-ok-inside.ensures.told in
-    record { told = told_exit _ _ _ _ c.from-residual-in-err-first.result c.from-residual-in-err-first.ensures.1 (way ∙ then_ok _ h-inside ∙ then_bad _ c.in-err-first.ensures.told); kept = c.number.ensures.kept }
+    let (a-inside, h-inside, p-inside) = c.in_ok-inside.ensures.told in
+    record { told = told_exit _ _ _ _ c.from_residual-in_err-first.result c.from_residual-in_err-first.ensures.1 (way ∙ then_ok _ h-inside ∙ then_bad _ c.in_err-first.ensures.told); kept = c.number.ensures.kept }
 
-pub places-returns-in-err-second : goal.places-returns-in-err-second
-places-returns-in-err-second t c =
+pub places-returns-in_err-second : goal.places-returns-in_err-second
+places-returns-in_err-second t c =
     let x = c.args.text.now in
     let ns = names_in x c.args.scope.now in
     let left = c.args.left in
@@ -311,11 +311,11 @@ places-returns-in-err-second t c =
     let start = c.args.start in
     let at = c.args.at in
     let way = place_open x (enough g) start left inner at (sym c.look.ensures ∙ c.if-look-ne91.false) c.if-left-eq0.false in
-    let (a-inside, h-inside, p-inside) = c.in-ok-inside.ensures.told in
-    let (f, h-first, p-first) = c.in-ok-first.ensures.told in
-    let m = c.in-ok-first.first.end in
+    let (a-inside, h-inside, p-inside) = c.in_ok-inside.ensures.told in
+    let (f, h-first, p-first) = c.in_ok-first.ensures.told in
+    let m = c.in_ok-first.first.end in
     let on = way ∙ then_ok _ h-inside ∙ then_ok _ h-first ∙ after_comma x (enough g) start inner f m (sym c.look-c.ensures ∙ c.if-c-eq44.true) in
-    record { told = told_exit _ _ _ _ c.from-residual-in-err-second.result c.from-residual-in-err-second.ensures.1 (on ∙ then_bad _ c.in-err-second.ensures.told); kept = agree_more c.args.free c.in-ok-first.first.next c.args.words.now c.number.new.words c.second-place.new.words p-first.forward c.number.ensures.kept c.second-place.ensures.kept }
+    record { told = told_exit _ _ _ _ c.from_residual-in_err-second.result c.from_residual-in_err-second.ensures.1 (on ∙ then_bad _ c.in_err-second.ensures.told); kept = agree_more c.args.free c.in_ok-first.first.next c.args.words.now c.number.new.words c.second_place.new.words p-first.forward c.number.ensures.kept c.second_place.ensures.kept }
 
 pub places-returns-then-c-eq44 : goal.places-returns-then-c-eq44
 places-returns-then-c-eq44 t c =
@@ -327,23 +327,23 @@ places-returns-then-c-eq44 t c =
     let start = c.args.start in
     let at = c.args.at in
     let way = place_open x (enough g) start left inner at (sym c.look.ensures ∙ c.if-look-ne91.false) c.if-left-eq0.false in
-    let (a-inside, h-inside, p-inside) = c.in-ok-inside.ensures.told in
-    let (f, h-first, p-first) = c.in-ok-first.ensures.told in
-    let m = c.in-ok-first.first.end in
+    let (a-inside, h-inside, p-inside) = c.in_ok-inside.ensures.told in
+    let (f, h-first, p-first) = c.in_ok-first.ensures.told in
+    let m = c.in_ok-first.first.end in
     let on = way ∙ then_ok _ h-inside ∙ then_ok _ h-first ∙ after_comma x (enough g) start inner f m (sym c.look-c.ensures ∙ c.if-c-eq44.true) in
-    let (s, h-second, p-second) = c.in-ok-second.ensures.told in
+    let (s, h-second, p-second) = c.in_ok-second.ensures.told in
     record {
       told = (
         two_of f s,
         on ∙ then_ok _ h-second,
-        both_made x c.args.words.now c.number.new.words c.second-place.new.words at c.in-ok-inside.inside c.args.free ns g f s c.in-ok-first.first c.in-ok-second.second (omega arith) c.requires.room.1
-            c.number.ensures.kept c.second-place.ensures.kept p-first p-second.0 p-second.1,
+        both_made x c.args.words.now c.number.new.words c.second_place.new.words at c.in_ok-inside.inside c.args.free ns g f s c.in_ok-first.first c.in_ok-second.second (omega arith) c.requires.room.1
+            c.number.ensures.kept c.second_place.ensures.kept p-first p-second.0 p-second.1,
       );
-      kept = agree_more c.args.free c.in-ok-first.first.next c.args.words.now c.number.new.words c.second-place.new.words p-first.forward c.number.ensures.kept c.second-place.ensures.kept;
+      kept = agree_more c.args.free c.in_ok-first.first.next c.args.words.now c.number.new.words c.second_place.new.words p-first.forward c.number.ensures.kept c.second_place.ensures.kept;
     }
 
-pub places-returns-then-needs-second : goal.places-returns-then-needs-second
-places-returns-then-needs-second t c =
+pub places-returns-then-needs_second : goal.places-returns-then-needs_second
+places-returns-then-needs_second t c =
     let x = c.args.text.now in
     let ns = names_in x c.args.scope.now in
     let left = c.args.left in
@@ -352,16 +352,16 @@ places-returns-then-needs-second t c =
     let start = c.args.start in
     let at = c.args.at in
     let way = place_open x (enough g) start left inner at (sym c.look.ensures ∙ c.if-look-ne91.false) c.if-left-eq0.false in
-    let (a-inside, h-inside, p-inside) = c.in-ok-inside.ensures.told in
-    let (f, h-first, p-first) = c.in-ok-first.ensures.told in
-    let m = c.in-ok-first.first.end in
+    let (a-inside, h-inside, p-inside) = c.in_ok-inside.ensures.told in
+    let (f, h-first, p-first) = c.in_ok-first.ensures.told in
+    let m = c.in_ok-first.first.end in
     record {
-      told = way ∙ then_ok _ h-inside ∙ then_ok _ h-first ∙ after_wrong x (enough g) start inner f m (λ e. c.if-c-eq44.false (c.look-c.ensures ∙ e)) (ap (λ b. eqb b 93 && not (enough g)) (sym c.look-c.ensures) ∙ sym c.if-needs-second.ensures);
+      told = way ∙ then_ok _ h-inside ∙ then_ok _ h-first ∙ after_wrong x (enough g) start inner f m (λ e. c.if-c-eq44.false (c.look-c.ensures ∙ e)) (ap (λ b. eqb b 93 && not (enough g)) (sym c.look-c.ensures) ∙ sym c.if-needs_second.ensures);
       kept = c.number.ensures.kept;
     }
 
-pub places-returns-in-err-end : goal.places-returns-in-err-end
-places-returns-in-err-end t c =
+pub places-returns-in_err-end : goal.places-returns-in_err-end
+places-returns-in_err-end t c =
     let x = c.args.text.now in
     let ns = names_in x c.args.scope.now in
     let left = c.args.left in
@@ -370,11 +370,11 @@ places-returns-in-err-end t c =
     let start = c.args.start in
     let at = c.args.at in
     let way = place_open x (enough g) start left inner at (sym c.look.ensures ∙ c.if-look-ne91.false) c.if-left-eq0.false in
-    let (a-inside, h-inside, p-inside) = c.in-ok-inside.ensures.told in
-    let (f, h-first, p-first) = c.in-ok-first.ensures.told in
-    let m = c.in-ok-first.first.end in
-    let on = way ∙ then_ok _ h-inside ∙ then_ok _ h-first ∙ after_one x (enough g) start inner f m (λ e. c.if-c-eq44.false (c.look-c.ensures ∙ e)) (ap (λ b. eqb b 93 && not (enough g)) (sym c.look-c.ensures) ∙ sym c.if-needs-second.ensures) in
-    record { told = told_exit _ _ _ _ c.from-residual-in-err-end.result c.from-residual-in-err-end.ensures.1 (on ∙ then_bad _ c.in-err-end.ensures.told); kept = c.number.ensures.kept }
+    let (a-inside, h-inside, p-inside) = c.in_ok-inside.ensures.told in
+    let (f, h-first, p-first) = c.in_ok-first.ensures.told in
+    let m = c.in_ok-first.first.end in
+    let on = way ∙ then_ok _ h-inside ∙ then_ok _ h-first ∙ after_one x (enough g) start inner f m (λ e. c.if-c-eq44.false (c.look-c.ensures ∙ e)) (ap (λ b. eqb b 93 && not (enough g)) (sym c.look-c.ensures) ∙ sym c.if-needs_second.ensures) in
+    record { told = told_exit _ _ _ _ c.from_residual-in_err-end.result c.from_residual-in_err-end.ensures.1 (on ∙ then_bad _ c.in_err-end.ensures.told); kept = c.number.ensures.kept }
 
 pub places-returns : goal.places-returns
 places-returns t c =
@@ -386,58 +386,58 @@ places-returns t c =
     let start = c.args.start in
     let at = c.args.at in
     let way = place_open x (enough g) start left inner at (sym c.look.ensures ∙ c.if-look-ne91.false) c.if-left-eq0.false in
-    let (a-inside, h-inside, p-inside) = c.in-ok-inside.ensures.told in
-    let (f, h-first, p-first) = c.in-ok-first.ensures.told in
-    let m = c.in-ok-first.first.end in
-    let on = way ∙ then_ok _ h-inside ∙ then_ok _ h-first ∙ after_one x (enough g) start inner f m (λ e. c.if-c-eq44.false (c.look-c.ensures ∙ e)) (ap (λ b. eqb b 93 && not (enough g)) (sym c.look-c.ensures) ∙ sym c.if-needs-second.ensures) in
-    let (s, h-end, p-end) = c.in-ok-end.ensures.told in
+    let (a-inside, h-inside, p-inside) = c.in_ok-inside.ensures.told in
+    let (f, h-first, p-first) = c.in_ok-first.ensures.told in
+    let m = c.in_ok-first.first.end in
+    let on = way ∙ then_ok _ h-inside ∙ then_ok _ h-first ∙ after_one x (enough g) start inner f m (λ e. c.if-c-eq44.false (c.look-c.ensures ∙ e)) (ap (λ b. eqb b 93 && not (enough g)) (sym c.look-c.ensures) ∙ sym c.if-needs_second.ensures) in
+    let (s, h-end, p-end) = c.in_ok-end.ensures.told in
     record {
       told = subst (λ r. Told (λ p. p.end) (PlacesMade x ns g at c.args.free c.args.words.now c.number.new.words) (place_at x g start left inner at) (Ok r)) (sym c.only_place.ensures)
-          (one_of f, on ∙ then_ok _ h-end ∙ ap (ok (one_of f)) (sym (only_end g c.in-ok-first.first c.in-ok-end.end)), only_made x c.args.words.now c.number.new.words at c.in-ok-inside.inside c.in-ok-end.end c.args.free ns g f c.in-ok-first.first (omega arith) (omega arith) (p-end.1 p-first.inside) (p-end.2 p-first.short) c.requires.room.1 c.number.ensures.kept p-first);
+          (one_of f, on ∙ then_ok _ h-end ∙ ap (ok (one_of f)) (sym (only_end g c.in_ok-first.first c.in_ok-end.end)), only_made x c.args.words.now c.number.new.words at c.in_ok-inside.inside c.in_ok-end.end c.args.free ns g f c.in_ok-first.first (omega arith) (omega arith) (p-end.1 p-first.inside) (p-end.2 p-first.short) c.requires.room.1 c.number.ensures.kept p-first);
       kept = c.number.ensures.kept;
     }
 
-pub second-place-returns-in-err-here : goal.second-place-returns-in-err-here
+pub second_place-returns-in_err-here : goal.second_place-returns-in_err-here
 unfolding second_at
-second-place-returns-in-err-here t c =
+second_place-returns-in_err-here t c =
     let x = c.args.text.now in
     let ns = names_in x c.args.scope.now in
     let left = c.args.left in
     let inner = num x ns (left - 1) in
-    record { told = told_exit _ _ _ _ c.from-residual.result c.from-residual.ensures.1 (then_bad _ c.in-err-here.ensures.told); kept = agree_self _ _ _ }
+    record { told = told_exit _ _ _ _ c.from_residual.result c.from_residual.ensures.1 (then_bad _ c.in_err-here.ensures.told); kept = agree_self _ _ _ }
 
-pub second-place-returns-in-err-second : goal.second-place-returns-in-err-second
+pub second_place-returns-in_err-second : goal.second_place-returns-in_err-second
 unfolding second_at
-second-place-returns-in-err-second t c =
+second_place-returns-in_err-second t c =
     let x = c.args.text.now in
     let ns = names_in x c.args.scope.now in
     let left = c.args.left in
     let inner = num x ns (left - 1) in
-    let (a-here, h-here, p-here) = c.in-ok-here.ensures.told in
-    record { told = told_exit _ _ _ _ c.from-residual-in-err-second.result c.from-residual-in-err-second.ensures.1 (then_ok _ h-here ∙ then_bad _ c.in-err-second.ensures.told); kept = c.number.ensures.kept }
+    let (a-here, h-here, p-here) = c.in_ok-here.ensures.told in
+    record { told = told_exit _ _ _ _ c.from_residual-in_err-second.result c.from_residual-in_err-second.ensures.1 (then_ok _ h-here ∙ then_bad _ c.in_err-second.ensures.told); kept = c.number.ensures.kept }
 
-pub second-place-returns-in-err-end : goal.second-place-returns-in-err-end
+pub second_place-returns-in_err-end : goal.second_place-returns-in_err-end
 unfolding second_at
-second-place-returns-in-err-end t c =
+second_place-returns-in_err-end t c =
     let x = c.args.text.now in
     let ns = names_in x c.args.scope.now in
     let left = c.args.left in
     let inner = num x ns (left - 1) in
-    let (a-here, h-here, p-here) = c.in-ok-here.ensures.told in
-    let (a_second, h-second, p-second) = c.in-ok-second.ensures.told in
-    record { told = told_exit _ _ _ _ c.from-residual-in-err-end.result c.from-residual-in-err-end.ensures.1 (then_ok _ h-here ∙ then_ok _ h-second ∙ then_bad _ c.in-err-end.ensures.told); kept = c.number.ensures.kept }
+    let (a-here, h-here, p-here) = c.in_ok-here.ensures.told in
+    let (a_second, h-second, p-second) = c.in_ok-second.ensures.told in
+    record { told = told_exit _ _ _ _ c.from_residual-in_err-end.result c.from_residual-in_err-end.ensures.1 (then_ok _ h-here ∙ then_ok _ h-second ∙ then_bad _ c.in_err-end.ensures.told); kept = c.number.ensures.kept }
 
-pub second-place-returns : goal.second-place-returns
+pub second_place-returns : goal.second_place-returns
 unfolding second_at
-second-place-returns t c =
+second_place-returns t c =
     let x = c.args.text.now in
     let ns = names_in x c.args.scope.now in
     let left = c.args.left in
     let inner = num x ns (left - 1) in
-    let (a-here, h-here, p-here) = c.in-ok-here.ensures.told in
-    let (a_second, h-second, p-second) = c.in-ok-second.ensures.told in
-    let (a-end, h-end, p-end) = c.in-ok-end.ensures.told in
+    let (a-here, h-here, p-here) = c.in_ok-here.ensures.told in
+    let (a_second, h-second, p-second) = c.in_ok-second.ensures.told in
+    let (a-end, h-end, p-end) = c.in_ok-end.ensures.told in
     record {
-      told = (a_second, then_ok _ h-here ∙ then_ok _ h-second ∙ then_ok _ h-end, (second_made x c.args.words.now c.number.new.words c.args.at c.in-ok-here.here c.in-ok-end.end c.args.free ns a_second c.in-ok-second.second (omega arith) (omega arith) (p-end.1 p-second.inside) (p-end.2 p-second.short) p-second, omega arith));
+      told = (a_second, then_ok _ h-here ∙ then_ok _ h-second ∙ then_ok _ h-end, (second_made x c.args.words.now c.number.new.words c.args.at c.in_ok-here.here c.in_ok-end.end c.args.free ns a_second c.in_ok-second.second (omega arith) (omega arith) (p-end.1 p-second.inside) (p-end.2 p-second.short) p-second, omega arith));
       kept = c.number.ensures.kept;
     }

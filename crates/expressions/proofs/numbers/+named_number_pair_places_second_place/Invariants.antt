@@ -14,5 +14,5 @@ decreases-pair l = 4 * l.left + 1
 abbrev pub decreases-places : goal.decreases-places
 decreases-places l = 4 * l.left + 1
 
-abbrev pub decreases-second-place : goal.decreases-second-place
-decreases-second-place l = 4 * l.left + 4
+abbrev pub decreases-second_place : goal.decreases-second_place
+decreases-second_place l = 4 * l.left + 4

@@ -4,8 +4,8 @@ use Rattle.expressions.specs.Signs.{operator_of}
 use Rattle.expressions.proofs.Signs.{signed_at, past_end, one_on, operator_is, operator_inside}
 use Rattle.expressions.proofs.numbers.operator.Goals as goal
 
-pub returns-in-default : goal.returns-in-default
-returns-in-default c = record { told = operator_is c.args.text.now c.args.at ∙ ap (signed_at c.args.at) (ap operator_of (sym c.look.ensures) ∙ sym c.in-default.ensures) }
+pub returns-in_default : goal.returns-in_default
+returns-in_default c = record { told = operator_is c.args.text.now c.args.at ∙ ap (signed_at c.args.at) (ap operator_of (sym c.look.ensures) ∙ sym c.in_default.ensures) }
 
 pub returns-then-at-eq-LONGEST : goal.returns-then-at-eq-LONGEST
 returns-then-at-eq-LONGEST c = record {

@@ -8,16 +8,16 @@ pub returns-then-at-eq-LONGEST : goal.returns-then-at-eq-LONGEST
 unfolding second_byte
 returns-then-at-eq-LONGEST c = record { told = cond-true (eqb c.args.at 65536) _ _ (eq-eqb c.args.at 65536 c.if-at-eq-LONGEST.true) }
 
-pub returns-in-err-end : goal.returns-in-err-end
+pub returns-in_err-end : goal.returns-in_err-end
 unfolding second_byte
-returns-in-err-end c = record {
-  told = told_exit _ _ _ _ c.from-residual.result c.from-residual.ensures.1 (cond-false (eqb c.args.at 65536) _ _ (ne_eqb c.args.at 65536 c.if-at-eq-LONGEST.false) ∙ then_bad _ c.in-err-end.ensures.told);
+returns-in_err-end c = record {
+  told = told_exit _ _ _ _ c.from_residual.result c.from_residual.ensures.1 (cond-false (eqb c.args.at 65536) _ _ (ne_eqb c.args.at 65536 c.if-at-eq-LONGEST.false) ∙ then_bad _ c.in_err-end.ensures.told);
 }
 
 pub returns : goal.returns
 unfolding second_byte
 returns c =
-    let (u, h, p) = c.in-ok-end.ensures.told in
+    let (u, h, p) = c.in_ok-end.ensures.told in
     let n = c.if-at-eq-LONGEST.false in
     let s = c.requires.short in
     let i = c.requires.inside in

@@ -18,15 +18,15 @@ loop-k-init c = (
   λ is s. (is, model.nothing, s, refl, λ _. nothing_tree 1808 c.args.free c.args.words.now),
 )
 
-pub overflow-sub-k : goal.overflow-sub-k
-overflow-sub-k c =
+pub overflow_sub-k : goal.overflow_sub-k
+overflow_sub-k c =
     let (is, s) = c.requires.stacked in
     let (js, a, t, e, r) = c.loop-k.invariant.5 is s in
     let y = (top_of c.args.pending.now c.args.free c.args.words.now c.args.depth js c.loop-k.k t c.loop-k-test.true).two in
     omega arith
 
-pub chain-node-next-requires : goal.chain-node-next-requires
-chain-node-next-requires c =
+pub chain_node-next-requires : goal.chain_node-next-requires
+chain_node-next-requires c =
     let (is, s) = c.requires.stacked in
     let (js, a, t, e, r) = c.loop-k.invariant.5 is s in
     let y = top_of c.args.pending.now c.args.free c.args.words.now c.args.depth js c.loop-k.k t c.loop-k-test.true in
@@ -47,12 +47,12 @@ loop-k-preserved c =
     let (js, a, t, e, r) = c.loop-k.invariant.5 is s in
     let w = (top_of ps free us c.args.depth js k t c.loop-k-test.true).two in
     let n = c.loop-k.invariant.1 in
-    let z = c.chain-node-next.ensures.next in (
+    let z = c.chain_node-next.ensures.next in (
       omega arith,
       omega arith,
       omega arith,
       λ _. omega arith,
-      agree_more free next us c.loop-k.words c.chain-node-next.new.words (omega arith) c.loop-k.invariant.4 c.chain-node-next.ensures.kept,
+      agree_more free next us c.loop-k.words c.chain_node-next.new.words (omega arith) c.loop-k.invariant.4 c.chain_node-next.ensures.kept,
       λ is s.
           let (js, a, t, e, r) = c.loop-k.invariant.5 is s in
           let y = top_of ps free us c.args.depth js k t c.loop-k-test.true in (
@@ -60,9 +60,9 @@ loop-k-preserved c =
             model.chain y.item.sign y.item.term a,
             y.rest,
             e ∙ chained_top js y.others y.item a y.all,
-            λ o. subst (λ m. Settled 1808 m c.chain-node-next.new.words (λ vs. LinIn vs next (model.chain y.item.sign y.item.term a))) (sym z)
-                (subst (λ g. Settled 1808 (next + 3) c.chain-node-next.new.words (λ vs. LinIn vs next (model.chain g y.item.term a))) (c.sign-of.ensures y.item.sign y.sign)
-                (c.chain-node-next.ensures.tree y.item.term a (settled_on free next us c.loop-k.words _ c.loop-k.invariant.4 (omega arith) (y.tree o)) (r o))),
+            λ o. subst (λ m. Settled 1808 m c.chain_node-next.new.words (λ vs. LinIn vs next (model.chain y.item.sign y.item.term a))) (sym z)
+                (subst (λ g. Settled 1808 (next + 3) c.chain_node-next.new.words (λ vs. LinIn vs next (model.chain g y.item.term a))) (c.sign_of.ensures y.item.sign y.sign)
+                (c.chain_node-next.ensures.tree y.item.term a (settled_on free next us c.loop-k.words _ c.loop-k.invariant.4 (omega arith) (y.tree o)) (r o))),
           ),
     )
 

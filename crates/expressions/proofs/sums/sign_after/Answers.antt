@@ -8,11 +8,11 @@ use Rattle.expressions.proofs.sums.sign_after.Goals as goal
 pub returns-then-not-term : goal.returns-then-not-term
 returns-then-not-term c = record { told = λ t. (None, ap (λ b. sign_after c.args.text.now (followed b t) c.args.term.node.end) (not-false _ c.if-not-term.true) ∙ no_sign c.args.text.now t c.args.term.node.end, refl) }
 
-pub returns-in-default : goal.returns-in-default
-returns-in-default c = record {
+pub returns-in_default : goal.returns-in_default
+returns-in_default c = record {
   told = λ t. (
     None,
-    ap (λ b. sign_after c.args.text.now (followed b t) c.args.term.node.end) (not-true _ c.if-not-term.false) ∙ no_sign_byte c.args.text.now t c.args.term.node.end (ap sign_of (sym c.look.ensures) ∙ sym c.in-default.ensures),
+    ap (λ b. sign_after c.args.text.now (followed b t) c.args.term.node.end) (not-true _ c.if-not-term.false) ∙ no_sign_byte c.args.text.now t c.args.term.node.end (ap sign_of (sym c.look.ensures) ∙ sym c.in_default.ensures),
     refl,
   );
 }
@@ -23,11 +23,11 @@ returns-then-end-eq-LONGEST c = record {
       ∙ sign_past c.args.text.now t c.args.term.node.end c.in-Some.sign (ap sign_of (sym c.look.ensures) ∙ sym c.in-Some.ensures) c.if-end-eq-LONGEST.true;
 }
 
-pub returns-in-err-end : goal.returns-in-err-end
-returns-in-err-end c = record {
-  told = λ t. told_exit _ _ _ _ c.from-residual.result c.from-residual.ensures.1
+pub returns-in_err-end : goal.returns-in_err-end
+returns-in_err-end c = record {
+  told = λ t. told_exit _ _ _ _ c.from_residual.result c.from_residual.ensures.1
       (ap (λ b. sign_after c.args.text.now (followed b t) c.args.term.node.end) (not-true _ c.if-not-term.false)
-      ∙ sign_bad c.args.text.now t c.args.term.node.end c.in-Some.sign (ap sign_of (sym c.look.ensures) ∙ sym c.in-Some.ensures) c.if-end-eq-LONGEST.false _ c.in-err-end.ensures.told);
+      ∙ sign_bad c.args.text.now t c.args.term.node.end c.in-Some.sign (ap sign_of (sym c.look.ensures) ∙ sym c.in-Some.ensures) c.if-end-eq-LONGEST.false _ c.in_err-end.ensures.told);
 }
 
 pub returns : goal.returns
@@ -38,11 +38,11 @@ returns c =
     let i = inside x e (sign_inside _ c.in-Some.sign s) in
     let n = c.if-end-eq-LONGEST.false in
     let l = c.requires.short in
-    let (u, h, p) = c.in-ok-end.ensures.told in
+    let (u, h, p) = c.in_ok-end.ensures.told in
     record {
       told = λ t. (
         Some c.in-Some.sign,
-        ap (λ b. sign_after x (followed b t) e) (not-true _ c.if-not-term.false) ∙ sign_read x t e c.in-Some.sign s n c.in-ok-end.end h,
+        ap (λ b. sign_after x (followed b t) e) (not-true _ c.if-not-term.false) ∙ sign_read x t e c.in-Some.sign s n c.in_ok-end.end h,
         (refl, omega arith, p.1 (omega arith), p.2 (omega arith)),
       );
     }

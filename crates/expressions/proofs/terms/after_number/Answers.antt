@@ -31,12 +31,12 @@ returns-then-end-eq-LONGEST c =
       kept = agree_self _ _ _;
     }
 
-pub returns-then-is-letter : goal.returns-then-is-letter
-returns-then-is-letter c =
+pub returns-then-is_letter : goal.returns-then-is_letter
+returns-then-is_letter c =
     let x = c.args.text.now in
     let ns = names_in x c.args.scope.now in
     let b = sym c.look.ensures ∙ c.if-look-ne32.false in
-    let t = ap is_letter (sym c.look-2.ensures) ∙ sym c.if-is-letter.ensures in
+    let t = ap is_letter (sym c.look-2.ensures) ∙ sym c.if-is_letter.ensures in
     record {
       told = λ e begin free us l s m. told_on _ _ _ _ _ c.variable.result (num_variable x ns c.args.left e c.args.number.end b c.if-end-eq-LONGEST.false t) (λ f r o. o) (c.variable.ensures.told e begin free us l s m);
       kept = c.variable.ensures.kept;
@@ -50,7 +50,7 @@ returns c =
     let b = sym c.look.ensures ∙ c.if-look-ne32.false in
     let i = inside x n.end (omega arith) in
     let p = c.if-end-eq-LONGEST.false in
-    let t = ap is_letter (sym c.look-2.ensures) ∙ sym c.if-is-letter.ensures in
+    let t = ap is_letter (sym c.look-2.ensures) ∙ sym c.if-is_letter.ensures in
     record {
       told = λ e begin free us l s m. (
         goes_on (alone e),

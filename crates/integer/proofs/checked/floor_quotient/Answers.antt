@@ -24,7 +24,7 @@ returns-then-d-gt0 c =
     let d = c.args.d in
     let fa = c.ranges.a in
     let fd = c.ranges.d in
-    let f : SFits w64 c.div-euclid.result = search rules in
-    let e : c.div-euclid.result ≡ int_div_euclid a d = simp to_z-of_z at c.div-euclid.ensures in
+    let f : SFits w64 c.div_euclid.result = search rules in
+    let e : c.div_euclid.result ≡ int_div_euclid a d = simp to_z-of_z at c.div_euclid.ensures in
     let p : pos 0 <ℤ d = search rules in
     simp to_z-of_z (rw e (record { value = value_is a d p; between = between_is a d p }))

@@ -15,12 +15,12 @@ returns-in-Some c =
     let p = c.in-Some.p in
     let fi = c.ranges.i in
     let fj = c.ranges.j in
-    let f : SFits w64 c.number-behind.result = search rules in
+    let f : SFits w64 c.number_behind.result = search rules in
     let h : t < table_count ws = omega (arith, c.count.ensures) in
     let e : Some p ≡ cond (inside c.limited-rows.result c.limited-columns.result c.args.i c.args.j) (Some (place c.limited-columns.result c.args.i c.args.j)) None = simp to_z-of_z at c.in-Some.ensures.value in
     let k = same_place _ _ _ _ c.args.i c.args.j (Some p) c.limited-rows.ensures.value c.limited-columns.ensures.value e in
     let l = same_below _ _ _ _ p c.limited-rows.ensures.value c.limited-columns.ensures.value c.in-Some.ensures.bound.0 in
-    to_z-of_z w64 c.number-behind.result f ∙ c.number-behind.ensures ∙ ap (λ s. to_z w64 (word ws (s + p))) c.word.ensures ∙ sym (entry_at ws t c.args.i c.args.j p h l k)
+    to_z-of_z w64 c.number_behind.result f ∙ c.number_behind.ensures ∙ ap (λ s. to_z w64 (word ws (s + p))) c.word.ensures ∙ sym (entry_at ws t c.args.i c.args.j p h l k)
 
 pub returns-in-None : goal.returns-in-None
 returns-in-None c =

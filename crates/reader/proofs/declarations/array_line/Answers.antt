@@ -10,116 +10,116 @@ use Rattle.reader.proofs.Ranges.{in_order, not_in_order}
 use Rattle.reader.proofs.Told.{array_made}
 use Rattle.reader.proofs.declarations.array_line.Goals as goal
 
-pub returns-in-err-begin : goal.returns-in-err-begin
-returns-in-err-begin c =
-    let x = c.from-residual in
+pub returns-in_err-begin : goal.returns-in_err-begin
+returns-in_err-begin c =
+    let x = c.from_residual in
     record {
       told = λ st e f. told_exit _ _ _ _ x.result x.ensures.1
-          (array_is _ st _ _ _ e f ∙ then_bad _ c.in-err-begin.ensures.told);
+          (array_is _ st _ _ _ e f ∙ then_bad _ c.in_err-begin.ensures.told);
     }
 
-pub returns-in-err-shape : goal.returns-in-err-shape
-returns-in-err-shape c =
-    let x = c.from-residual-in-err-shape in
-    let (u, h, p) = c.in-ok-begin.ensures.told in
+pub returns-in_err-shape : goal.returns-in_err-shape
+returns-in_err-shape c =
+    let x = c.from_residual-in_err-shape in
+    let (u, h, p) = c.in_ok-begin.ensures.told in
     record {
       told = λ st e f. told_exit _ _ _ _ x.result x.ensures.1
-          (array_is _ st _ _ _ e f ∙ then_ok _ h ∙ then_bad _ c.in-err-shape.ensures.told);
+          (array_is _ st _ _ _ e f ∙ then_ok _ h ∙ then_bad _ c.in_err-shape.ensures.told);
     }
 
-pub returns-in-err-from : goal.returns-in-err-from
-returns-in-err-from c =
-    let x = c.from-residual-in-err-from in
-    let (u, h, p) = c.in-ok-begin.ensures.told in
-    let (s, i, q) = c.in-ok-shape.ensures.told in
+pub returns-in_err-from : goal.returns-in_err-from
+returns-in_err-from c =
+    let x = c.from_residual-in_err-from in
+    let (u, h, p) = c.in_ok-begin.ensures.told in
+    let (s, i, q) = c.in_ok-shape.ensures.told in
     record {
       told = λ st e f. told_exit _ _ _ _ x.result x.ensures.1
-          (array_is _ st _ _ _ e f ∙ then_ok _ h ∙ then_ok _ i ∙ then_bad _ c.in-err-from.ensures.told);
+          (array_is _ st _ _ _ e f ∙ then_ok _ h ∙ then_ok _ i ∙ then_bad _ c.in_err-from.ensures.told);
     }
 
-pub returns-in-err-lower : goal.returns-in-err-lower
-returns-in-err-lower c =
-    let x = c.from-residual-in-err-lower in
-    let (u, h, p) = c.in-ok-begin.ensures.told in
-    let (s, i, q) = c.in-ok-shape.ensures.told in
-    let (v, j, r) = c.in-ok-from.ensures.told in
+pub returns-in_err-lower : goal.returns-in_err-lower
+returns-in_err-lower c =
+    let x = c.from_residual-in_err-lower in
+    let (u, h, p) = c.in_ok-begin.ensures.told in
+    let (s, i, q) = c.in_ok-shape.ensures.told in
+    let (v, j, r) = c.in_ok-from.ensures.told in
     record {
       told = λ st e f. told_exit _ _ _ _ x.result x.ensures.1
-          (array_is _ st _ _ _ e f ∙ then_ok _ h ∙ then_ok _ i ∙ then_ok _ j ∙ then_bad _ c.in-err-lower.ensures.told);
+          (array_is _ st _ _ _ e f ∙ then_ok _ h ∙ then_ok _ i ∙ then_ok _ j ∙ then_bad _ c.in_err-lower.ensures.told);
     }
 
-pub returns-in-err-to : goal.returns-in-err-to
-returns-in-err-to c =
-    let x = c.from-residual-in-err-to in
-    let (u, h, p) = c.in-ok-begin.ensures.told in
-    let (s, i, q) = c.in-ok-shape.ensures.told in
-    let (v, j, r) = c.in-ok-from.ensures.told in
-    let (l, k, o) = c.in-ok-lower.ensures.told in
+pub returns-in_err-to : goal.returns-in_err-to
+returns-in_err-to c =
+    let x = c.from_residual-in_err-to in
+    let (u, h, p) = c.in_ok-begin.ensures.told in
+    let (s, i, q) = c.in_ok-shape.ensures.told in
+    let (v, j, r) = c.in_ok-from.ensures.told in
+    let (l, k, o) = c.in_ok-lower.ensures.told in
     record {
       told = λ st e f. told_exit _ _ _ _ x.result x.ensures.1
-          (array_is _ st _ _ _ e f ∙ then_ok _ h ∙ then_ok _ i ∙ then_ok _ j ∙ then_ok _ k ∙ then_bad _ c.in-err-to.ensures.told);
+          (array_is _ st _ _ _ e f ∙ then_ok _ h ∙ then_ok _ i ∙ then_ok _ j ∙ then_ok _ k ∙ then_bad _ c.in_err-to.ensures.told);
     }
 
-pub returns-in-err-upper : goal.returns-in-err-upper
-returns-in-err-upper c =
-    let x = c.from-residual-in-err-upper in
-    let (u, h, p) = c.in-ok-begin.ensures.told in
-    let (s, i, q) = c.in-ok-shape.ensures.told in
-    let (v, j, r) = c.in-ok-from.ensures.told in
-    let (l, k, o) = c.in-ok-lower.ensures.told in
-    let (y, m, t) = c.in-ok-to.ensures.told in
+pub returns-in_err-upper : goal.returns-in_err-upper
+returns-in_err-upper c =
+    let x = c.from_residual-in_err-upper in
+    let (u, h, p) = c.in_ok-begin.ensures.told in
+    let (s, i, q) = c.in_ok-shape.ensures.told in
+    let (v, j, r) = c.in_ok-from.ensures.told in
+    let (l, k, o) = c.in_ok-lower.ensures.told in
+    let (y, m, t) = c.in_ok-to.ensures.told in
     record {
       told = λ st e f. told_exit _ _ _ _ x.result x.ensures.1
-          (array_is _ st _ _ _ e f ∙ then_ok _ h ∙ then_ok _ i ∙ then_ok _ j ∙ then_ok _ k ∙ then_ok _ m ∙ then_bad _ c.in-err-upper.ensures.told);
+          (array_is _ st _ _ _ e f ∙ then_ok _ h ∙ then_ok _ i ∙ then_ok _ j ∙ then_ok _ k ∙ then_ok _ m ∙ then_bad _ c.in_err-upper.ensures.told);
     }
 
 pub returns-then-lower-upper : goal.returns-then-lower-upper
 returns-then-lower-upper c =
-    let (u, h, p) = c.in-ok-begin.ensures.told in
-    let (s, i, q) = c.in-ok-shape.ensures.told in
-    let (v, j, r) = c.in-ok-from.ensures.told in
-    let (l, k, o) = c.in-ok-lower.ensures.told in
-    let (y, m, t) = c.in-ok-to.ensures.told in
-    let (n, g, a) = c.in-ok-upper.ensures.told in
-    let lo : SFits w64 c.in-ok-lower.lower.value = search rules in
-    let hi : SFits w64 c.in-ok-upper.upper.value = search rules in
-    let z : c.in-ok-upper.upper.value <ℤ c.in-ok-lower.lower.value = omega (arith, ints) in
+    let (u, h, p) = c.in_ok-begin.ensures.told in
+    let (s, i, q) = c.in_ok-shape.ensures.told in
+    let (v, j, r) = c.in_ok-from.ensures.told in
+    let (l, k, o) = c.in_ok-lower.ensures.told in
+    let (y, m, t) = c.in_ok-to.ensures.told in
+    let (n, g, a) = c.in_ok-upper.ensures.told in
+    let lo : SFits w64 c.in_ok-lower.lower.value = search rules in
+    let hi : SFits w64 c.in_ok-upper.upper.value = search rules in
+    let z : c.in_ok-upper.upper.value <ℤ c.in_ok-lower.lower.value = omega (arith, ints) in
     record { told = λ st e f. array_is _ st _ _ _ e f ∙ then_ok _ h ∙ then_ok _ i ∙ then_ok _ j ∙ then_ok _ k ∙ then_ok _ m ∙ then_ok _ g ∙ cond-false (le_z (value l) (value n)) _ _ (not_in_order (value l) (value n) _ _ o.value a.value z) }
 
-pub returns-in-err-end : goal.returns-in-err-end
-returns-in-err-end c =
-    let x = c.from-residual-in-err-end in
-    let (u, h, p) = c.in-ok-begin.ensures.told in
-    let (s, i, q) = c.in-ok-shape.ensures.told in
-    let (v, j, r) = c.in-ok-from.ensures.told in
-    let (l, k, o) = c.in-ok-lower.ensures.told in
-    let (y, m, t) = c.in-ok-to.ensures.told in
-    let (n, g, a) = c.in-ok-upper.ensures.told in
-    let lo : SFits w64 c.in-ok-lower.lower.value = search rules in
-    let hi : SFits w64 c.in-ok-upper.upper.value = search rules in
-    let z : c.in-ok-lower.lower.value ≤ℤ c.in-ok-upper.upper.value = omega (arith, ints) in
+pub returns-in_err-end : goal.returns-in_err-end
+returns-in_err-end c =
+    let x = c.from_residual-in_err-end in
+    let (u, h, p) = c.in_ok-begin.ensures.told in
+    let (s, i, q) = c.in_ok-shape.ensures.told in
+    let (v, j, r) = c.in_ok-from.ensures.told in
+    let (l, k, o) = c.in_ok-lower.ensures.told in
+    let (y, m, t) = c.in_ok-to.ensures.told in
+    let (n, g, a) = c.in_ok-upper.ensures.told in
+    let lo : SFits w64 c.in_ok-lower.lower.value = search rules in
+    let hi : SFits w64 c.in_ok-upper.upper.value = search rules in
+    let z : c.in_ok-lower.lower.value ≤ℤ c.in_ok-upper.upper.value = omega (arith, ints) in
     record {
       told = λ st e f. told_exit _ _ _ _ x.result x.ensures.1
-          (array_is _ st _ _ _ e f ∙ then_ok _ h ∙ then_ok _ i ∙ then_ok _ j ∙ then_ok _ k ∙ then_ok _ m ∙ then_ok _ g ∙ cond-true (le_z (value l) (value n)) _ _ (in_order (value l) (value n) _ _ o.value a.value z) ∙ then_bad _ c.in-err-end.ensures.told);
+          (array_is _ st _ _ _ e f ∙ then_ok _ h ∙ then_ok _ i ∙ then_ok _ j ∙ then_ok _ k ∙ then_ok _ m ∙ then_ok _ g ∙ cond-true (le_z (value l) (value n)) _ _ (in_order (value l) (value n) _ _ o.value a.value z) ∙ then_bad _ c.in_err-end.ensures.told);
     }
 
 pub returns : goal.returns
 returns c =
-    let (u, h, p) = c.in-ok-begin.ensures.told in
-    let (s, i, q) = c.in-ok-shape.ensures.told in
-    let (v, j, r) = c.in-ok-from.ensures.told in
-    let (l, k, o) = c.in-ok-lower.ensures.told in
-    let (y, m, t) = c.in-ok-to.ensures.told in
-    let (n, g, a) = c.in-ok-upper.ensures.told in
-    let lo : SFits w64 c.in-ok-lower.lower.value = search rules in
-    let hi : SFits w64 c.in-ok-upper.upper.value = search rules in
-    let z : c.in-ok-lower.lower.value ≤ℤ c.in-ok-upper.upper.value = omega (arith, ints) in
-    let (b, w, d) = c.in-ok-end.ensures.told in
+    let (u, h, p) = c.in_ok-begin.ensures.told in
+    let (s, i, q) = c.in_ok-shape.ensures.told in
+    let (v, j, r) = c.in_ok-from.ensures.told in
+    let (l, k, o) = c.in_ok-lower.ensures.told in
+    let (y, m, t) = c.in_ok-to.ensures.told in
+    let (n, g, a) = c.in_ok-upper.ensures.told in
+    let lo : SFits w64 c.in_ok-lower.lower.value = search rules in
+    let hi : SFits w64 c.in_ok-upper.upper.value = search rules in
+    let z : c.in_ok-lower.lower.value ≤ℤ c.in_ok-upper.upper.value = omega (arith, ints) in
+    let (b, w, d) = c.in_ok-end.ensures.told in
     record {
       told = λ st e f. (
         array_line s.name s.rows s.columns l n,
         array_is _ st _ _ _ e f ∙ then_ok _ h ∙ then_ok _ i ∙ then_ok _ j ∙ then_ok _ k ∙ then_ok _ m ∙ then_ok _ g ∙ cond-true (le_z (value l) (value n)) _ _ (in_order (value l) (value n) _ _ o.value a.value z) ∙ then_ok _ w,
-        array_made c.args.text.now c.args.at c.in-ok-begin.begin c.in-ok-from.from c.in-ok-to.to c.in-ok-end.end s l n c.in-ok-shape.shape
-            c.in-ok-lower.lower c.in-ok-upper.upper _ _ p q r o t a d (to_z-of_z w64 c.in-ok-lower.lower.value lo) (to_z-of_z w64 c.in-ok-upper.upper.value hi),
+        array_made c.args.text.now c.args.at c.in_ok-begin.begin c.in_ok-from.from c.in_ok-to.to c.in_ok-end.end s l n c.in_ok-shape.shape
+            c.in_ok-lower.lower c.in_ok-upper.upper _ _ p q r o t a d (to_z-of_z w64 c.in_ok-lower.lower.value lo) (to_z-of_z w64 c.in_ok-upper.upper.value hi),
       );
     }

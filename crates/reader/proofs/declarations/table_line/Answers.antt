@@ -10,104 +10,104 @@ use Rattle.reader.proofs.Tabled.{put_done, some_entries, others_are, table_made}
 use Rattle.reader.proofs.declarations.table_line.Goals as goal
 use Rattle.reader.proofs.declarations.table_line.Goals.{After-unwrap-others, After-table-numbers}
 
-pub overflow-sub-wanted : goal.overflow-sub-wanted
-overflow-sub-wanted c = let (s, i, q) = c.in-ok-shape.ensures.told in some_entries q
+pub overflow_sub-wanted : goal.overflow_sub-wanted
+overflow_sub-wanted c = let (s, i, q) = c.in_ok-shape.ensures.told in some_entries q
 
 -- the first number is written
-first_put : (c : After-unwrap-others) → (c.unwrap-others.result ≡ c.args.free + 1) × (to_z w64 (word c.put-number.new.words c.args.free) ≡ c.in-ok-first.first.value)
+first_put : (c : After-unwrap-others) → (c.unwrap-others.result ≡ c.args.free + 1) × (to_z w64 (word c.put_number.new.words c.args.free) ≡ c.in_ok-first.first.value)
 first_put c =
-    let fits : SFits w64 c.in-ok-first.first.value = search rules in
-    let (g, y) = put_done c.put-number.result (length c.args.words.now) c.args.free c.unwrap-others.result c.put-number.ensures.next (omega arith) (omega arith) c.put-number.ensures.here c.unwrap-others.ensures in
-    (g, y ∙ to_z-of_z w64 c.in-ok-first.first.value fits)
+    let fits : SFits w64 c.in_ok-first.first.value = search rules in
+    let (g, y) = put_done c.put_number.result (length c.args.words.now) c.args.free c.unwrap-others.result c.put_number.ensures.next (omega arith) (omega arith) c.put_number.ensures.here c.unwrap-others.ensures in
+    (g, y ∙ to_z-of_z w64 c.in_ok-first.first.value fits)
 
 -- what stands below the table stays
-all_below : (c : After-table-numbers) → Agree 0 c.args.free c.args.words.now c.table-numbers.new.words
-all_below c = let (g, y) = first_put (goal.at.After-table-numbers c).After-unwrap-others in agree_on c.put-number.ensures.below (agree_part 0 c.args.free (omega arith) (omega arith) c.table-numbers.ensures.below)
+all_below : (c : After-table_numbers) → Agree 0 c.args.free c.args.words.now c.table_numbers.new.words
+all_below c = let (g, y) = first_put (goal.at.After-table_numbers c).After-unwrap-others in agree_on c.put_number.ensures.below (agree_part 0 c.args.free (omega arith) (omega arith) c.table_numbers.ensures.below)
 
-pub returns-in-err-begin : goal.returns-in-err-begin
-returns-in-err-begin c =
-    let x = c.from-residual in
+pub returns-in_err-begin : goal.returns-in_err-begin
+returns-in_err-begin c =
+    let x = c.from_residual in
     record {
       told = λ st e f. told_exit _ _ _ _ x.result x.ensures.1
-          (table_is _ st _ _ _ e f ∙ then_bad _ c.in-err-begin.ensures.told);
+          (table_is _ st _ _ _ e f ∙ then_bad _ c.in_err-begin.ensures.told);
       below = agree_self 0 c.args.free c.args.words.now;
     }
 
-pub returns-in-err-shape : goal.returns-in-err-shape
-returns-in-err-shape c =
-    let x = c.from-residual-in-err-shape in
-    let (u, h, p) = c.in-ok-begin.ensures.told in
+pub returns-in_err-shape : goal.returns-in_err-shape
+returns-in_err-shape c =
+    let x = c.from_residual-in_err-shape in
+    let (u, h, p) = c.in_ok-begin.ensures.told in
     record {
       told = λ st e f. told_exit _ _ _ _ x.result x.ensures.1
-          (table_is _ st _ _ _ e f ∙ then_ok _ h ∙ then_bad _ c.in-err-shape.ensures.told);
+          (table_is _ st _ _ _ e f ∙ then_ok _ h ∙ then_bad _ c.in_err-shape.ensures.told);
       below = agree_self 0 c.args.free c.args.words.now;
     }
 
-pub returns-in-err-from : goal.returns-in-err-from
-returns-in-err-from c =
-    let x = c.from-residual-in-err-from in
-    let (u, h, p) = c.in-ok-begin.ensures.told in
-    let (s, i, q) = c.in-ok-shape.ensures.told in
+pub returns-in_err-from : goal.returns-in_err-from
+returns-in_err-from c =
+    let x = c.from_residual-in_err-from in
+    let (u, h, p) = c.in_ok-begin.ensures.told in
+    let (s, i, q) = c.in_ok-shape.ensures.told in
     record {
       told = λ st e f. told_exit _ _ _ _ x.result x.ensures.1
-          (table_is _ st _ _ _ e f ∙ then_ok _ h ∙ then_ok _ i ∙ then_bad _ c.in-err-from.ensures.told);
+          (table_is _ st _ _ _ e f ∙ then_ok _ h ∙ then_ok _ i ∙ then_bad _ c.in_err-from.ensures.told);
       below = agree_self 0 c.args.free c.args.words.now;
     }
 
-pub returns-in-err-first : goal.returns-in-err-first
-returns-in-err-first c =
-    let x = c.from-residual-in-err-first in
-    let (u, h, p) = c.in-ok-begin.ensures.told in
-    let (s, i, q) = c.in-ok-shape.ensures.told in
-    let (v, j, r) = c.in-ok-from.ensures.told in
+pub returns-in_err-first : goal.returns-in_err-first
+returns-in_err-first c =
+    let x = c.from_residual-in_err-first in
+    let (u, h, p) = c.in_ok-begin.ensures.told in
+    let (s, i, q) = c.in_ok-shape.ensures.told in
+    let (v, j, r) = c.in_ok-from.ensures.told in
     record {
       told = λ st e f. told_exit _ _ _ _ x.result x.ensures.1
-          (table_is _ st _ _ _ e f ∙ then_ok _ h ∙ then_ok _ i ∙ then_ok _ j ∙ then_bad _ c.in-err-first.ensures.told);
+          (table_is _ st _ _ _ e f ∙ then_ok _ h ∙ then_ok _ i ∙ then_ok _ j ∙ then_bad _ c.in_err-first.ensures.told);
       below = agree_self 0 c.args.free c.args.words.now;
     }
 
-pub returns-in-err-behind : goal.returns-in-err-behind
-returns-in-err-behind c =
-    let x = c.from-residual-in-err-behind in
-    let (u, h, p) = c.in-ok-begin.ensures.told in
-    let (s, i, q) = c.in-ok-shape.ensures.told in
-    let (v, j, r) = c.in-ok-from.ensures.told in
-    let (n, k, o) = c.in-ok-first.ensures.told in
+pub returns-in_err-behind : goal.returns-in_err-behind
+returns-in_err-behind c =
+    let x = c.from_residual-in_err-behind in
+    let (u, h, p) = c.in_ok-begin.ensures.told in
+    let (s, i, q) = c.in_ok-shape.ensures.told in
+    let (v, j, r) = c.in_ok-from.ensures.told in
+    let (n, k, o) = c.in_ok-first.ensures.told in
     record {
       told = λ st e f. told_exit _ _ _ _ x.result x.ensures.1
-          (table_is _ st _ _ _ e f ∙ then_ok _ h ∙ then_ok _ i ∙ then_ok _ j ∙ then_ok _ k ∙ then_bad _ (others_are q _ _ ∙ c.in-err-behind.ensures.told));
-      below = all_below (goal.at.returns-in-err-behind c).After-table-numbers;
+          (table_is _ st _ _ _ e f ∙ then_ok _ h ∙ then_ok _ i ∙ then_ok _ j ∙ then_ok _ k ∙ then_bad _ (others_are q _ _ ∙ c.in_err-behind.ensures.told));
+      below = all_below (goal.at.returns-in_err-behind c).After-table_numbers;
     }
 
-pub returns-in-err-end : goal.returns-in-err-end
-returns-in-err-end c =
-    let x = c.from-residual-in-err-end in
-    let (u, h, p) = c.in-ok-begin.ensures.told in
-    let (s, i, q) = c.in-ok-shape.ensures.told in
-    let (v, j, r) = c.in-ok-from.ensures.told in
-    let (n, k, o) = c.in-ok-first.ensures.told in
-    let (ns, m, t) = c.in-ok-behind.ensures.told in
+pub returns-in_err-end : goal.returns-in_err-end
+returns-in_err-end c =
+    let x = c.from_residual-in_err-end in
+    let (u, h, p) = c.in_ok-begin.ensures.told in
+    let (s, i, q) = c.in_ok-shape.ensures.told in
+    let (v, j, r) = c.in_ok-from.ensures.told in
+    let (n, k, o) = c.in_ok-first.ensures.told in
+    let (ns, m, t) = c.in_ok-behind.ensures.told in
     record {
       told = λ st e f. told_exit _ _ _ _ x.result x.ensures.1
-          (table_is _ st _ _ _ e f ∙ then_ok _ h ∙ then_ok _ i ∙ then_ok _ j ∙ then_ok _ k ∙ then_ok _ (others_are q _ _ ∙ m) ∙ then_bad _ c.in-err-end.ensures.told);
-      below = all_below (goal.at.returns-in-err-end c).After-table-numbers;
+          (table_is _ st _ _ _ e f ∙ then_ok _ h ∙ then_ok _ i ∙ then_ok _ j ∙ then_ok _ k ∙ then_ok _ (others_are q _ _ ∙ m) ∙ then_bad _ c.in_err-end.ensures.told);
+      below = all_below (goal.at.returns-in_err-end c).After-table_numbers;
     }
 
 pub returns : goal.returns
 returns c =
-    let (u, h, p) = c.in-ok-begin.ensures.told in
-    let (s, i, q) = c.in-ok-shape.ensures.told in
-    let (v, j, r) = c.in-ok-from.ensures.told in
-    let (n, k, o) = c.in-ok-first.ensures.told in
-    let (ns, m, t) = c.in-ok-behind.ensures.told in
-    let (b, w, d) = c.in-ok-end.ensures.told in
+    let (u, h, p) = c.in_ok-begin.ensures.told in
+    let (s, i, q) = c.in_ok-shape.ensures.told in
+    let (v, j, r) = c.in_ok-from.ensures.told in
+    let (n, k, o) = c.in_ok-first.ensures.told in
+    let (ns, m, t) = c.in_ok-behind.ensures.told in
+    let (b, w, d) = c.in_ok-end.ensures.told in
     let (g, y) = first_put (goal.at.returns c).After-unwrap-others in
     record {
       told = λ st e f. (
         table_line s.name s.rows s.columns n ns,
         table_is _ st _ _ _ e f ∙ then_ok _ h ∙ then_ok _ i ∙ then_ok _ j ∙ then_ok _ k ∙ then_ok _ (others_are q _ _ ∙ m) ∙ then_ok _ w,
-        table_made q c.args.at c.in-ok-from.from c.in-ok-behind.behind c.in-ok-end.end n ns c.in-ok-first.first c.args.free c.unwrap-others.result
-            c.put-number.new.words c.table-numbers.new.words p r o g y c.table-numbers.ensures.below t d,
+        table_made q c.args.at c.in_ok-from.from c.in_ok-behind.behind c.in_ok-end.end n ns c.in_ok-first.first c.args.free c.unwrap-others.result
+            c.put_number.new.words c.table_numbers.new.words p r o g y c.table_numbers.ensures.below t d,
       );
-      below = all_below (goal.at.returns c).After-table-numbers;
+      below = all_below (goal.at.returns c).After-table_numbers;
     }

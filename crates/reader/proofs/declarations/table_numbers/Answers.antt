@@ -7,35 +7,35 @@ use Rattle.reader.proofs.declarations.table_numbers.Goals as goal
 pub loop-free-init : goal.loop-free-init
 loop-free-init c = so_far_none c.args.text.now c.args.words.now c.args.line c.args.free c.args.wanted c.args.at c.requires.place
 
-pub returns-in-err-from : goal.returns-in-err-from
-returns-in-err-from c =
-    let z = c.from-residual in
-    let e = comma_bad _ _ _ _ _ (sym c.look.ensures ∙ c.loop-free-test.true) c.in-err-from.ensures.told in
+pub returns-in_err-from : goal.returns-in_err-from
+returns-in_err-from c =
+    let z = c.from_residual in
+    let e = comma_bad _ _ _ _ _ (sym c.look.ensures ∙ c.loop-free-test.true) c.in_err-from.ensures.told in
     record { told = told_exit _ _ _ _ z.result z.ensures.1 (so_far_bad c.loop-free.invariant _ e); below = c.loop-free.invariant.below }
 
 pub returns-then-left-eq0 : goal.returns-then-left-eq0
 returns-then-left-eq0 c =
-    let (u, h, p) = c.in-ok-from.ensures.told in
+    let (u, h, p) = c.in_ok-from.ensures.told in
     let e = too_many _ _ _ _ _ c.if-left-eq0.true (sym c.look.ensures ∙ c.loop-free-test.true) h in
     record { told = so_far_bad c.loop-free.invariant _ e; below = c.loop-free.invariant.below }
 
-pub returns-in-err-found : goal.returns-in-err-found
-returns-in-err-found c =
-    let z = c.from-residual-in-err-found in
-    let (u, h, p) = c.in-ok-from.ensures.told in
-    let e = number_bad _ _ _ _ _ _ c.if-left-eq0.false (sym c.look.ensures ∙ c.loop-free-test.true) h c.in-err-found.ensures.told in
+pub returns-in_err-found : goal.returns-in_err-found
+returns-in_err-found c =
+    let z = c.from_residual-in_err-found in
+    let (u, h, p) = c.in_ok-from.ensures.told in
+    let e = number_bad _ _ _ _ _ _ c.if-left-eq0.false (sym c.look.ensures ∙ c.loop-free-test.true) h c.in_err-found.ensures.told in
     record { told = told_exit _ _ _ _ z.result z.ensures.1 (so_far_bad c.loop-free.invariant _ e); below = c.loop-free.invariant.below }
 
 pub loop-free-preserved : goal.loop-free-preserved
 loop-free-preserved c =
-    let (u, h, p) = c.in-ok-from.ensures.told in
-    let (n, i, q) = c.in-ok-found.ensures.told in
+    let (u, h, p) = c.in_ok-from.ensures.told in
+    let (n, i, q) = c.in_ok-found.ensures.told in
     let s = c.loop-free.invariant in
-    let f : SFits w64 c.in-ok-found.found.value = search rules in
+    let f : SFits w64 c.in_ok-found.found.value = search rules in
     let r = so_far_room s c.requires.short c.requires.room in
-    let (g, y) = put_done c.put-number.result (length c.loop-free.words) c.loop-free.next c.unwrap-next.result c.put-number.ensures.next (omega arith) r c.put-number.ensures.here c.unwrap-next.ensures in
-    so_far_more s c.put-number.new.words c.in-ok-from.from c.unwrap-next.result n c.in-ok-found.found (sym c.look.ensures ∙ c.loop-free-test.true) c.if-left-eq0.false h p i q
-    c.put-number.ensures.below g (y ∙ to_z-of_z w64 c.in-ok-found.found.value f)
+    let (g, y) = put_done c.put_number.result (length c.loop-free.words) c.loop-free.next c.unwrap-next.result c.put_number.ensures.next (omega arith) r c.put_number.ensures.here c.unwrap-next.ensures in
+    so_far_more s c.put_number.new.words c.in_ok-from.from c.unwrap-next.result n c.in_ok-found.found (sym c.look.ensures ∙ c.loop-free-test.true) c.if-left-eq0.false h p i q
+    c.put_number.ensures.below g (y ∙ to_z-of_z w64 c.in_ok-found.found.value f)
 
 pub returns-then-left-eq0-2 : goal.returns-then-left-eq0-2
 returns-then-left-eq0-2 c = record {
@@ -43,12 +43,12 @@ returns-then-left-eq0-2 c = record {
   below = c.loop-free.invariant.below;
 }
 
-pub returns-then-look-eq-LINE-END : goal.returns-then-look-eq-LINE-END
-returns-then-look-eq-LINE-END c =
-    let e = too_few _ _ _ _ c.if-left-eq0-2.false (sym c.look-2.ensures ∙ c.if-look-eq-LINE-END.true) in
+pub returns-then-look-eq-LINE_END : goal.returns-then-look-eq-LINE_END
+returns-then-look-eq-LINE_END c =
+    let e = too_few _ _ _ _ c.if-left-eq0-2.false (sym c.look-2.ensures ∙ c.if-look-eq-LINE_END.true) in
     record { told = so_far_bad c.loop-free.invariant _ e; below = c.loop-free.invariant.below }
 
 pub returns : goal.returns
 returns c =
-    let e = broken_off _ _ _ _ c.if-left-eq0-2.false (λ e. c.loop-free-test.false (c.look.ensures ∙ e)) (λ e. c.if-look-eq-LINE-END.false (c.look-2.ensures ∙ e)) in
+    let e = broken_off _ _ _ _ c.if-left-eq0-2.false (λ e. c.loop-free-test.false (c.look.ensures ∙ e)) (λ e. c.if-look-eq-LINE_END.false (c.look-2.ensures ∙ e)) in
     record { told = so_far_bad c.loop-free.invariant _ e; below = c.loop-free.invariant.below }

@@ -4,32 +4,32 @@ use Rattle.std.proofs.lemmas.Int.{to_z-of_z}
 use Rattle.solver.proofs.Laid.{last_laid, number_short}
 use Rattle.solver.proofs.lines.lay_best.Goals as goal
 
-pub lay-number-number-requires : goal.lay-number-number-requires
-lay-number-number-requires c =
+pub lay_number-number-requires : goal.lay_number-number-requires
+lay_number-number-requires c =
     let fits = c.ranges.cost in
     record {
-      within = omega (arith, c.lay-text-newline.auto.room, c.lay-text-newline.ensures.value, c.told-room);
-      fits = simp to_z-of_z (omega (arith, c.lay-text-newline.ensures.value, number_short c.args.cost fits));
+      within = omega (arith, c.lay_text-newline.auto.room, c.lay_text-newline.ensures.value, c.told-room);
+      fits = simp to_z-of_z (omega (arith, c.lay_text-newline.ensures.value, number_short c.args.cost fits));
     }
 
-pub lay-text-requires : goal.lay-text-requires
-lay-text-requires c =
+pub lay_text-requires : goal.lay_text-requires
+lay_text-requires c =
     let fits = c.ranges.cost in
-    let value : c.lay-number-number.result + length (signed_decimal c.args.cost) ≡ c.lay-text-newline.result = simp to_z-of_z at c.lay-number-number.ensures.value in
+    let value : c.lay_number-number.result + length (signed_decimal c.args.cost) ≡ c.lay_text-newline.result = simp to_z-of_z at c.lay_number-number.ensures.value in
     record {
-      within = omega (arith, value, c.lay-number-number.auto.room, c.lay-text-newline.auto.room, c.lay-text-newline.ensures.value, c.told-room);
-      fits = omega (arith, value, c.lay-text-newline.ensures.value, number_short c.args.cost fits);
+      within = omega (arith, value, c.lay_number-number.auto.room, c.lay_text-newline.auto.room, c.lay_text-newline.ensures.value, c.told-room);
+      fits = omega (arith, value, c.lay_text-newline.ensures.value, number_short c.args.cost fits);
     }
 
 pub returns : goal.returns
 returns c =
     let fits = c.ranges.cost in
-    let value : c.lay-number-number.result + length (signed_decimal c.args.cost) ≡ c.lay-text-newline.result = simp to_z-of_z at c.lay-number-number.ensures.value in
-    let number : drop c.lay-number-number.result c.lay-number-number.new.room ≡ signed_decimal c.args.cost ++ drop c.lay-text-newline.result c.lay-text-newline.new.room
-    = simp to_z-of_z at c.lay-number-number.ensures.bytes in
-    let newline : drop c.lay-text-newline.result c.lay-text-newline.new.room ≡ 10 ∷ []
-    = last_laid c.args.room.now _ (10 ∷ []) 26 c.told-room c.lay-text-newline.ensures.bytes in
+    let value : c.lay_number-number.result + length (signed_decimal c.args.cost) ≡ c.lay_text-newline.result = simp to_z-of_z at c.lay_number-number.ensures.value in
+    let number : drop c.lay_number-number.result c.lay_number-number.new.room ≡ signed_decimal c.args.cost ++ drop c.lay_text-newline.result c.lay_text-newline.new.room
+    = simp to_z-of_z at c.lay_number-number.ensures.bytes in
+    let newline : drop c.lay_text-newline.result c.lay_text-newline.new.room ≡ 10 ∷ []
+    = last_laid c.args.room.now _ (10 ∷ []) 26 c.told-room c.lay_text-newline.ensures.bytes in
     record {
-      bound = omega (arith, c.lay-text.ensures.value, value, c.lay-text-newline.ensures.value);
-      bytes = c.lay-text.ensures.bytes ∙ ap (λ (l : List ℕ). codes "best " ++ l) (number ∙ ap (λ (l : List ℕ). signed_decimal c.args.cost ++ l) newline);
+      bound = omega (arith, c.lay_text.ensures.value, value, c.lay_text-newline.ensures.value);
+      bytes = c.lay_text.ensures.bytes ∙ ap (λ (l : List ℕ). codes "best " ++ l) (number ∙ ap (λ (l : List ℕ). signed_decimal c.args.cost ++ l) newline);
     }

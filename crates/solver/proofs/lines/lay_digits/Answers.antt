@@ -3,8 +3,8 @@ use Rattle.std.proofs.lemmas.Fmt.{decimal_digit, decimal_nonempty}
 use Rattle.solver.proofs.Laid.{digit_laid, first_laid, one_fewer}
 use Rattle.solver.proofs.lines.lay_digits.Goals as goal
 
-pub overflow-sub-start : goal.overflow-sub-start
-overflow-sub-start c = omega (arith, c.requires, decimal_nonempty c.loop-rest.rest (omega arith))
+pub overflow_sub-start : goal.overflow_sub-start
+overflow_sub-start c = omega (arith, c.requires, decimal_nonempty c.loop-rest.rest (omega arith))
 
 pub bounds-room-start : goal.bounds-room-start
 bounds-room-start c = omega (arith, c.requires, decimal_nonempty c.loop-rest.rest (omega arith))
@@ -20,8 +20,8 @@ loop-rest-preserved c =
       digit_laid l.room l.start l.rest some (omega (arith, c.requires)) (omega arith) fits ∙ l.invariant.3,
     )
 
-pub overflow-sub-start-2 : goal.overflow-sub-start-2
-overflow-sub-start-2 c = omega (arith, c.requires, decimal_nonempty c.loop-rest.rest (omega arith))
+pub overflow_sub-start-2 : goal.overflow_sub-start-2
+overflow_sub-start-2 c = omega (arith, c.requires, decimal_nonempty c.loop-rest.rest (omega arith))
 
 pub bounds-room-start-2 : goal.bounds-room-start-2
 bounds-room-start-2 c = omega (arith, c.requires, decimal_nonempty c.loop-rest.rest (omega arith))

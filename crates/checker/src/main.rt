@@ -1,4 +1,6 @@
 // Checks a certificate against its model. The work is the library's: this program reads the two files.
+#![tactic(auto)]
+
 use std::{env, io};
 
 const USAGE: &str = "\
