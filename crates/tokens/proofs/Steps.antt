@@ -5,7 +5,7 @@ use Rattle.std.proofs.lemmas.List.{drop_more, drop_all, get_or_past}
 use Rattle.std.proofs.lemmas.Bool.{cond-true, cond-false, eq-eqb, ne_eqb, lt-ltb, le-ltb, cases_lt, both_ways}
 use Rattle.grammar.specs.declared.Refusal.{Refusal}
 use Rattle.grammar.specs.declared.Refusal.TheVariants.{Syntax, Range}
-use Rattle.grammar.specs.Reading.{Got, ok, bad, byte, in_length, front, literal}
+use Rattle.grammar.specs.Reading.{Got, ok, bad, then, byte, in_length, front, literal}
 use Rattle.tokens.specs.Told.{Told}
 
 -- what is told of an outcome is told of one that is the same, with what follows from it
@@ -16,6 +16,15 @@ told_on end P Q o q (Err r) e f t = e ∙ t
 -- what a `?` returns
 pub told_exit : {A R : Type 0} (end : R → ℕ) (P : A → R → Type 0) (o : Got A) (q : Refusal) (r : Result R Refusal) → IsErrAnd r (λ y. y ≡ q) → o ≡ bad q → Told end P o r
 told_exit end P o q r b h = let p = err_from_is_err_and r b in subst (Told end P o) (sym p.1) (h ∙ ap bad (sym p.2))
+
+-- one part read after another
+pub then_ok : {A B : Type 0} {o : Got A} {a : A} {e : ℕ} (g : A → ℕ → Got B) → o ≡ ok a e → then o g ≡ g a e
+unfolding then
+then_ok g h = ap (λ o. then o g) h
+
+pub then_bad : {A B : Type 0} {o : Got A} {q : Refusal} (g : A → ℕ → Got B) → o ≡ bad q → then o g ≡ bad q
+unfolding then
+then_bad g h = ap (λ o. then o g) h
 
 -- LITERALS
 
