@@ -1,7 +1,7 @@
 -- Numbers, sums and constraints that have no fault stand for ones in bounds. Assumes nothing.
 use Rattle.std.proofs.Common.{◌≡◌, ℕ, zero, suc, ◌<◌, ◌≤◌, true, eqb, [], ◌∷◌, length, pos, nat_abs, Some, None, Option, refl, arith}
 use lib.Signed.{le_z}
-use Rattle.std.specs.List.{AllByRecursion as All}
+use Rattle.std.specs.List.{AllByRecursion}
 use Rattle.std.specs.Str.{bytes_eq}
 use Rattle.std.proofs.ByRecursion.{All-weaker}
 use Rattle.std.proofs.lemmas.Int.{ints}
@@ -42,7 +42,7 @@ Stands s n (an_array k r c) = k < length s.arrays
 Stands s n (an_index l) = l < n
 
 abbrev pub Known : model.Symbols → Names → Type 0
-Known s ns = All (λ n. Stands s (levels ns) n.sort) ns
+Known s ns = AllByRecursion (λ n. Stands s (levels ns) n.sort) ns
 
 stands_more : (s : model.Symbols) (n m : ℕ) → n ≤ m → (k : Sort) → Stands s n k → Stands s m k
 stands_more s n m l (a_set k) h = h
@@ -59,7 +59,7 @@ abbrev StandsIf : model.Symbols → ℕ → Option Sort → Type 0
 StandsIf s n None = Unit {0}
 StandsIf s n (Some k) = Stands s n k
 
-found : (s : model.Symbols) (n : ℕ) (w : Word) (ns : Names) → All (λ m. Stands s n m.sort) ns → StandsIf s n (find w ns)
+found : (s : model.Symbols) (n : ℕ) (w : Word) (ns : Names) → AllByRecursion (λ m. Stands s n m.sort) ns → StandsIf s n (find w ns)
 unfolding find
 found s n w [] h = tt
 found s n w (m ∷ ns) h = cond_both (bytes_eq w m.word) (Some m.sort) (find w ns) (StandsIf s n) (λ _. h.0) (λ _. found s n w ns h.1)

@@ -1,6 +1,6 @@
 -- Texts by their places: bytes, words and fronts. Assumes nothing.
 use Rattle.std.proofs.Common.{◌≡◌, ℕ, zero, suc, ◌+◌, ◌-◌, ◌<◌, Bool, true, false, ◌&&◌, ◌||◌, eqb, leb, List, [], ◌∷◌, ◌++◌, length, get_or, drop, sym, refl, ap, ◌∙◌, arith, length-drop}
-use Rattle.std.specs.List.{AllByRecursion as All}
+use Rattle.std.specs.List.{AllByRecursion}
 use Rattle.std.specs.Str.{bytes_eq}
 use Rattle.std.proofs.lemmas.List.{drop-drop, drop_at, get_or-drop}
 use Rattle.std.proofs.lemmas.Bool.{cond-true, cond-false, false≢true, and_parts, leb-true, eqb-true, ne_eqb}
@@ -37,7 +37,7 @@ word_long [] e = absurd (false≢true e)
 word_long (c ∷ w) e = omega arith
 
 -- the front of a word before what is no part of it
-pub front_of : (f : ℕ → Bool) (w k : List ℕ) → f 256 ≡ false → All (λ c. f c ≡ true) w → f (byte k 0) ≡ false → front f (w ++ k) ≡ w
+pub front_of : (f : ℕ → Bool) (w k : List ℕ) → f 256 ≡ false → AllByRecursion (λ c. f c ≡ true) w → f (byte k 0) ≡ false → front f (w ++ k) ≡ w
 unfolding front
 front_of f [] [] z a s = refl
 front_of f [] (c ∷ k) z a s = cond-false (f c) (c ∷ front f k) [] s

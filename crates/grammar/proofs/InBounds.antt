@@ -1,6 +1,6 @@
 -- Every model that a text says is in bounds. Assumes nothing.
 use Rattle.std.proofs.Common.{◌≡◌, ℕ, ◌<◌, ◌≤◌, true, List, [], ◌∷◌, map, length, pos, neg_ℤ, nat_abs, ◌≤ℤ◌, sym, refl, subst, arith}
-use Rattle.std.specs.List.{AllByRecursion as All}
+use Rattle.std.specs.List.{AllByRecursion}
 use Rattle.std.proofs.ByRecursion.{All-weaker, All-push, All-map}
 use Rattle.std.proofs.lemmas.List.{length_push, length-map}
 use Rattle.std.proofs.lemmas.Int.{ints}
@@ -38,10 +38,10 @@ lines_grow st (l ∷ ls) m =
 
 -- the model of the lines so far fits, where t are the symbols of all lines
 record Kept (t : model.Symbols) (st : State) (m : model.Model) : Type 0 where
-  sets : (length m.symbols.sets ≡ st.sets) × (st.sets ≤ 16) × All (λ n. n ≤ 1000) m.symbols.sets
-  tables : (length m.symbols.tables ≡ st.tables) × (st.tables ≤ 16) × All TableFits m.symbols.tables
-  arrays : (length m.symbols.arrays ≡ st.arrays) × (st.arrays ≤ 16) × All ArrayFits m.symbols.arrays
-  constraints : (length m.constraints ≡ st.wishes) × (st.wishes ≤ 256) × All (RowGood t 0 8) m.constraints
+  sets : (length m.symbols.sets ≡ st.sets) × (st.sets ≤ 16) × AllByRecursion (λ n. n ≤ 1000) m.symbols.sets
+  tables : (length m.symbols.tables ≡ st.tables) × (st.tables ≤ 16) × AllByRecursion TableFits m.symbols.tables
+  arrays : (length m.symbols.arrays ≡ st.arrays) × (st.arrays ≤ 16) × AllByRecursion ArrayFits m.symbols.arrays
+  constraints : (length m.constraints ≡ st.wishes) × (st.wishes ≤ 256) × AllByRecursion (RowGood t 0 8) m.constraints
   objective : LinGood t 0 8 m.objective
   names : Known t st.names
   outside : levels st.names ≡ 0

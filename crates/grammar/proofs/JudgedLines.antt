@@ -1,7 +1,7 @@
 -- Lines, judged. Assumes nothing.
 use Rattle.std.proofs.Common.{◌≡◌, ℕ, zero, suc, ◌-◌, ◌*◌, ◌<◌, true, eqb, leb, List, [], ◌∷◌, ◌++◌, length, pos, codes, refl, ap, pos_of_ne-zero, mul-pos, arith}
 use lib.Signed.{le_z}
-use Rattle.std.specs.List.{AllByRecursion as All}
+use Rattle.std.specs.List.{AllByRecursion}
 use Rattle.std.proofs.lemmas.Int.{ints}
 use Rattle.std.proofs.lemmas.Bool.{and_parts, eqb-true, eqb-false, leb-false, false≢true}
 use Rattle.grammar.specs.Grammar.{Word, IsName, Numeral, nought, whole, minus, IsNumeral, numeral_text, one, compare, Line, set_line, table_line, array_line, least_line, wish_line, IsLine, numerals_text, line_text, lines_text}
@@ -66,7 +66,7 @@ judge_shape x ns start at =
     (λ _. judge_name_fault))
 
 abbrev Listed : ℕ → Kind
-Listed wanted = record { Tree = List Numeral; Is = All IsNumeral; Sure = λ ns _. All IsNumeral ns × All (λ m. small m ≡ true) ns × (length ns ≡ wanted); text = numerals_text }
+Listed wanted = record { Tree = List Numeral; Is = AllByRecursion IsNumeral; Sure = λ ns _. AllByRecursion IsNumeral ns × AllByRecursion (λ m. small m ≡ true) ns × (length ns ≡ wanted); text = numerals_text }
 
 judge_numerals : (x : List ℕ) (start wanted at : ℕ) → Judged (Listed wanted) x at (numerals x start wanted at)
 unfolding numerals
@@ -158,7 +158,7 @@ judge_line x most st at =
 
 -- and the text ends behind them
 abbrev pub Texts : List ℕ → State → Kind
-Texts x st = record { Tree = List Line; Is = All IsLine; Sure = λ ls e. All IsLine ls × FineLines st ls × (byte x e ≡ 256); text = lines_text }
+Texts x st = record { Tree = List Line; Is = AllByRecursion IsLine; Sure = λ ls e. AllByRecursion IsLine ls × FineLines st ls × (byte x e ≡ 256); text = lines_text }
 
 pub judge_lines : (x : List ℕ) (most turns : ℕ) (st : State) (at : ℕ) → Judged (Texts x st) x at (lines x most turns st at)
 unfolding lines FineLines

@@ -1,6 +1,6 @@
 -- Words, names and numerals, judged. Assumes nothing.
 use Rattle.std.proofs.Common.{◌≡◌, ℕ, ◌+◌, ◌<◌, ◌≤◌, true, false, cond, ◌&&◌, eqb, ltb, leb, List, [], ◌∷◌, ◌++◌, length, get_or, take, drop, sym, refl, ap, ◌∙◌, subst, ⊎_elim, append_assoc, arith, length-append}
-use Rattle.std.specs.List.{AllByRecursion as All}
+use Rattle.std.specs.List.{AllByRecursion}
 use Rattle.std.specs.Str.{bytes_eq}
 use Rattle.std.proofs.lemmas.List.{take-append-drop, length-take-le}
 use Rattle.std.proofs.ByRecursion.{All-take, All-push}
@@ -49,7 +49,7 @@ judge_numeral x at =
     (λ _. judge_none Numerals x at nought tt)))
 
 -- what holds of each word holds of one that is among them
-among : (P : Word → Type 0) (w : Word) (ns : List Word) → member w ns ≡ true → All P ns → P w
+among : (P : Word → Type 0) (w : Word) (ns : List Word) → member w ns ≡ true → AllByRecursion P ns → P w
 unfolding member
 among P w [] e a = absurd (false≢true e)
 among P w (n ∷ ns) e a =
@@ -59,7 +59,7 @@ among P w (n ∷ ns) e a =
 abbrev Brief : Word → Type 0
 Brief n = (length n < 12) × (member (n ++ (97 ∷ [])) reserved ≡ false)
 
-brief : All Brief reserved
+brief : AllByRecursion Brief reserved
 unfolding member
 brief = ((omega arith, refl), ((omega arith, refl), ((omega arith, refl), ((omega arith, refl), ((omega arith, refl), ((omega arith, refl), ((omega arith, refl), ((omega arith, refl), ((omega arith, refl), ((omega arith, refl), ((omega arith, refl), ((omega arith, refl), ((omega arith, refl), tt)))))))))))))
 
@@ -70,7 +70,7 @@ long_name w l = ⊎_elim (λ (e : member w reserved ≡ true). let s = among Bri
 -- a letter, and letters and digits, of any length
 record Begun (w : Word) : Type 0 where
   letter : is_letter (get_or w 0 256) ≡ true
-  rest : All (λ c. is_word c ≡ true) w
+  rest : AllByRecursion (λ c. is_word c ≡ true) w
 
 begun_take : (w : Word) → Begun w → Begun (take 12 w)
 begun_take [] b = b

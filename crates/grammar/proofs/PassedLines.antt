@@ -1,7 +1,7 @@
 -- Lines pass. Assumes nothing.
 use Rattle.std.proofs.Common.{◌≡◌, ℕ, zero, suc, ◌-◌, ◌*◌, ◌<◌, ◌≤◌, Bool, true, false, T, eqb, leb, List, [], ◌∷◌, ◌++◌, length, drop, codes, refl, arith}
 use lib.Signed.{le_z}
-use Rattle.std.specs.List.{AllByRecursion as All}
+use Rattle.std.specs.List.{AllByRecursion}
 use Rattle.std.proofs.lemmas.Bool.{both_ways, lt-leb, ne_eqb}
 use Rattle.grammar.specs.Grammar.{Word, IsName, Numeral, IsNumeral, numeral_text, lin_text, row_text, numerals_text, Line, set_line, table_line, array_line, least_line, wish_line, IsLine, line_text, lines_text}
 use Rattle.grammar.specs.Reading.{byte, name, size, value, small, within, Names, free, State, set_at, shape, numerals, table_at, bound_small, array_at, least_at, wish_at, line, behind, lines}
@@ -43,7 +43,7 @@ module _ {F : Type 0} (u : List ℕ) (short : F → length u ≤ 65536) where
       pass_then _ (pass_numeral u short k c e z s h) (λ e h. pass_range_test (within 1 1000 c) _ (λ v. (f v).2) (pass_ok h))))))))
 
   -- so many as are wanted
-  pass_numerals : (ns : List Numeral) (wanted : ℕ) (k : List ℕ) (start at : ℕ) → All IsNumeral ns → (F → All (λ n. small n ≡ true) ns × (length ns ≡ wanted)) → drop at u ≡ numerals_text ns (10 ∷ k)
+  pass_numerals : (ns : List Numeral) (wanted : ℕ) (k : List ℕ) (start at : ℕ) → AllByRecursion IsNumeral ns → (F → AllByRecursion (λ n. small n ≡ true) ns × (length ns ≡ wanted)) → drop at u ≡ numerals_text ns (10 ∷ k)
       → Passes F u (10 ∷ k) ns (numerals u start wanted at)
   unfolding numerals
   pass_numerals [] zero k start at i f h = pass_skip (λ b. eqb b 44) (10 ∷ k) at _ h refl (pass_ok h)
@@ -128,7 +128,7 @@ module _ {F : Type 0} (u : List ℕ) (short : F → length u ≤ 65536) (most : 
       pass_then _ (pass_literal u short k (10 ∷ []) e h) (λ e h. pass_ok h)))))))))
 
   -- with a turn for each line, and one to end at
-  pub pass_each : (ls : List Line) (turns : ℕ) (st : State) (at : ℕ) → All IsLine ls → (F → length (lines_text ls []) < turns) → (F → FineLines st ls) → drop at u ≡ lines_text ls [] → Passes F u [] ls (lines u most turns st at)
+  pub pass_each : (ls : List Line) (turns : ℕ) (st : State) (at : ℕ) → AllByRecursion IsLine ls → (F → length (lines_text ls []) < turns) → (F → FineLines st ls) → drop at u ≡ lines_text ls [] → Passes F u [] ls (lines u most turns st at)
   unfolding lines FineLines
   pass_each [] zero st at i t f h = no_range (λ y. let n = t y in omega arith)
   pass_each (l ∷ ls) zero st at i t f h = no_range (λ y. let n = t y in omega arith)
@@ -142,6 +142,6 @@ module _ {F : Type 0} (u : List ℕ) (short : F → length u ≤ 65536) (most : 
       pass_then _ (pass_each ls turns (behind l st) e i.1 (λ y. let n = t y in omega arith) (λ y. (f y).1) h) (λ e h. pass_ok h)))
 
 -- with turns enough
-pub pass_lines : (u : List ℕ) (most turns : ℕ) (st : State) (at : ℕ) (ls : List Line) → length u < most → length (lines_text ls []) < turns → All IsLine ls → drop at u ≡ lines_text ls []
+pub pass_lines : (u : List ℕ) (most turns : ℕ) (st : State) (at : ℕ) (ls : List Line) → length u < most → length (lines_text ls []) < turns → AllByRecursion IsLine ls → drop at u ≡ lines_text ls []
     → Passes (FineLines st ls × (length u ≤ 65536)) u [] ls (lines u most turns st at)
 pass_lines u most turns st at ls room t i h = pass_each u (λ y. y.1) most (λ _. room) ls turns st at i (λ _. t) (λ y. y.0) h

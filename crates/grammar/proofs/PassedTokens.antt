@@ -1,6 +1,6 @@
 -- Tokens that are written pass. Assumes nothing.
 use Rattle.std.proofs.Common.{◌≡◌, ℕ, suc, ◌+◌, ◌≤◌, true, false, cond, ◌&&◌, eqb, ltb, leb, List, [], ◌∷◌, ◌++◌, length, drop, codes, sym, refl, ap, ◌∙◌, subst, arith}
-use Rattle.std.specs.List.{AllByRecursion as All}
+use Rattle.std.specs.List.{AllByRecursion}
 use Rattle.std.proofs.lemmas.Bool.{eq-eqb, and_parts, and_left, leb-true, lt-leb, le-ltb, or_parts}
 use Rattle.model.specs.declared.Operator.{Operator}
 use Rattle.model.specs.declared.Operator.TheVariants.{Plus, Minus, Times}
@@ -53,7 +53,7 @@ module _ {F : Type 0} (u : List ℕ) (short : F → length u ≤ 65536) where
   pass_name k w at i s h = pass_then _ (pass_word k w at i.0 s h) (λ e h. pass_false (member w reserved) _ i.1 (pass_ok h))
 
   -- the digits behind a first one
-  pass_digits : (ds k : List ℕ) (at d : ℕ) (G : ℕ → List ℕ → Numeral) → All (λ c. is_digit c ≡ true) ds → Stops k → drop at u ≡ d ∷ (ds ++ k)
+  pass_digits : (ds k : List ℕ) (at d : ℕ) (G : ℕ → List ℕ → Numeral) → AllByRecursion (λ c. is_digit c ≡ true) ds → Stops k → drop at u ≡ d ∷ (ds ++ k)
       → Passes F u k (G d ds) (in_length (G (byte u at) (digits_at u (at + 1))) (at + 1 + length (digits_at u (at + 1))))
   pass_digits ds k at d G a s h =
       let b = drop_byte u (ds ++ k) at d h in

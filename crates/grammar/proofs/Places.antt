@@ -1,6 +1,6 @@
 -- Parts of a text by their places, and what was read there. Assumes nothing.
 use Rattle.std.proofs.Common.{◌≡◌, ℕ, suc, ◌+◌, ◌<◌, ◌≤◌, Bool, true, false, eqb, ltb, List, [], ◌∷◌, ◌++◌, length, get_or, drop, sym, refl, ap, ◌∙◌, subst, ⊎_elim, arith}
-use Rattle.std.specs.List.{AllByRecursion as All}
+use Rattle.std.specs.List.{AllByRecursion}
 use Rattle.std.proofs.lemmas.List.{drop_more, drop-drop, drop_all, get_or-drop, get_or_past}
 use Rattle.std.proofs.lemmas.Bool.{cases_lt, eqb-true, eqb-false, ltb-true, cond-true, cond_both}
 use Rattle.grammar.specs.Reading.{byte, front}
@@ -87,10 +87,10 @@ front_is f (c ∷ l) =
 pub span_front : (f : ℕ → Bool) (x : List ℕ) (at : ℕ) → at + length (front f (drop at x)) ≤ 65536 → Span x at (at + length (front f (drop at x))) (λ k. front f (drop at x) ++ k)
 span_front f x at n = let r = front_is f (drop at x) in span_word x r.0 (front f (drop at x)) at (λ _. n) r.1
 
-pub front_all : (f : ℕ → Bool) (l : List ℕ) → All (λ c. f c ≡ true) (front f l)
+pub front_all : (f : ℕ → Bool) (l : List ℕ) → AllByRecursion (λ c. f c ≡ true) (front f l)
 unfolding front
 front_all f [] = tt
-front_all f (c ∷ l) = cond_both (f c) (c ∷ front f l) [] (All (λ c. f c ≡ true)) (λ e. (e, front_all f l)) (λ _. tt)
+front_all f (c ∷ l) = cond_both (f c) (c ∷ front f l) [] (AllByRecursion (λ c. f c ≡ true)) (λ e. (e, front_all f l)) (λ _. tt)
 
 pub front_head : (f : ℕ → Bool) (x : List ℕ) (at : ℕ) → byte x at < 256 → f (byte x at) ≡ true → front f (drop at x) ≡ byte x at ∷ front f (drop (at + 1) x)
 unfolding front

@@ -1,6 +1,6 @@
 -- Models in bounds: as many sets, tables, arrays and constraints as there may be, of sizes as they may have; numbers in range; indexes that are bound; sums and alls at most 8 deep. Assumes nothing.
 use Rattle.std.specs.Prelude.{◌≡◌, ℕ, suc, ◌*◌, ◌<◌, ◌≤◌, List, length, ℤ, pos, neg_ℤ, ◌≤ℤ◌, Some, None, Option, unsigned_abs}
-use Rattle.std.specs.List.{AllByRecursion as All}
+use Rattle.std.specs.List.{AllByRecursion}
 use Rattle.model.specs.Model.{Num, fixed, index, entry, joined, Cond, relate, both, Lin, amount, term, sum_over, chain, nothing, Constraint, compare, for_all, Table, Array, Symbols, Model}
 use Rattle.model.specs.Kept.{depth, sum_depth}
 use Rattle.grammar.specs.Says.{Says}
@@ -35,7 +35,7 @@ pub record TableFits (t : Table) : Type 0 where
   pub rows : (1 ≤ t.rows) × (t.rows ≤ 1000)
   pub columns : (1 ≤ t.columns) × (t.columns ≤ 1000)
   pub count : length t.numbers ≡ t.rows * t.columns
-  pub numbers : All (λ a. unsigned_abs a < 1000000) t.numbers
+  pub numbers : AllByRecursion (λ a. unsigned_abs a < 1000000) t.numbers
 
 pub record ArrayFits (a : Array) : Type 0 where
   pub rows : (1 ≤ a.rows) × (a.rows ≤ 1000)
@@ -43,10 +43,10 @@ pub record ArrayFits (a : Array) : Type 0 where
   pub bounds : (neg_ℤ (pos 1000000) ≤ℤ a.lower) × (a.lower ≤ℤ a.upper) × (a.upper ≤ℤ pos 1000000)
 
 pub record Fits (m : Model) : Type 0 where
-  pub sets : (length m.symbols.sets ≤ 16) × All (λ n. n ≤ 1000) m.symbols.sets
-  pub tables : (length m.symbols.tables ≤ 16) × All TableFits m.symbols.tables
-  pub arrays : (1 ≤ length m.symbols.arrays) × (length m.symbols.arrays ≤ 16) × All ArrayFits m.symbols.arrays
-  pub constraints : (length m.constraints ≤ 256) × All (λ c. ConstraintFits m.symbols 0 c × (depth c ≤ 8)) m.constraints
+  pub sets : (length m.symbols.sets ≤ 16) × AllByRecursion (λ n. n ≤ 1000) m.symbols.sets
+  pub tables : (length m.symbols.tables ≤ 16) × AllByRecursion TableFits m.symbols.tables
+  pub arrays : (1 ≤ length m.symbols.arrays) × (length m.symbols.arrays ≤ 16) × AllByRecursion ArrayFits m.symbols.arrays
+  pub constraints : (length m.constraints ≤ 256) × AllByRecursion (λ c. ConstraintFits m.symbols 0 c × (depth c ≤ 8)) m.constraints
   pub objective : LinFits m.symbols 0 m.objective × (sum_depth m.objective ≤ 8)
 
 -- a text that says a model says one in bounds

@@ -1,6 +1,6 @@
 -- Which grammatical lines have no fault of names or ranges: each name is there, of its sort, and new where it has to be; numbers are in range; nothing is too many, too deep or too long. Assumes nothing.
 use Rattle.std.specs.Prelude.{◌≡◌, ℕ, zero, suc, ◌*◌, ◌<◌, ◌≤◌, Bool, true, false, List, [], ◌∷◌, length, ◌≤ℤ◌, Some, None, Option}
-use Rattle.std.specs.List.{AllByRecursion as All}
+use Rattle.std.specs.List.{AllByRecursion}
 use Rattle.grammar.specs.Grammar.{Word, Numeral, Num, fixed, index, entry1, entry2, joined, Cond, only, with_and, Term, alone, times1, times2, sum_over, Lin, one, more, Sides, last, next, Row, compare, for_all, Line, set_line, table_line, array_line, least_line, wish_line, IsLine, lines_text}
 use Rattle.grammar.specs.Reading.{Names, find, set_there, table_there, array_there, index_there, one_place, free, with_index, size, value, small, within, bound_small, State, at_first, behind}
 
@@ -55,7 +55,7 @@ FineRow ns (suc nest) (for_all s i c r) = FineHeader ns 64 s i c × FineRow (wit
 unfoldable pub FineLine : State → Line → Type 0
 FineLine st (set_line w n) = (st.sets < 16) × (free w st.names ≡ true) × (within 0 1000 n ≡ true)
 FineLine st (table_line w r c n ns) =
-    (st.tables < 16) × (free w st.names ≡ true) × (within 1 1000 r ≡ true) × (within 1 1000 c ≡ true) × (small n ≡ true) × All (λ m. small m ≡ true) ns × (suc (length ns) ≡ size r * size c)
+    (st.tables < 16) × (free w st.names ≡ true) × (within 1 1000 r ≡ true) × (within 1 1000 c ≡ true) × (small n ≡ true) × AllByRecursion (λ m. small m ≡ true) ns × (suc (length ns) ≡ size r * size c)
 FineLine st (array_line w r c l h) =
     (st.arrays < 16) × (free w st.names ≡ true) × (within 1 1000 r ≡ true) × (within 1 1000 c ≡ true) × (bound_small l ≡ true) × (bound_small h ≡ true) × (value l ≤ℤ value h)
 FineLine st (least_line l) = (st.least ≡ false) × FineLin st.names 64 8 l
@@ -68,4 +68,4 @@ FineLines st (l ∷ ls) = FineLine st l × FineLines (behind l st) ls
 
 -- the text is these lines, which are grammatical and have no fault
 abbrev pub Written : List ℕ → List Line → Type 0
-Written x ls = All IsLine ls × FineLines at_first ls × (length x ≤ 65536) × (x ≡ lines_text ls [])
+Written x ls = AllByRecursion IsLine ls × FineLines at_first ls × (length x ≤ 65536) × (x ≡ lines_text ls [])

@@ -1,6 +1,6 @@
 -- The grammar: what can be written, and how. A text is grammatical if it is the lines of some tree, written. Names need not be declared, nor numbers be in range. Assumes nothing.
 use Rattle.std.specs.Prelude.{◌≡◌, ℕ, suc, ◌≤◌, Bool, true, false, ◌&&◌, ◌||◌, List, [], ◌∷◌, ◌++◌, length, take, Some, None, codes, Option, nat_le, slice_index_or}
-use Rattle.std.specs.List.{AllByRecursion as All}
+use Rattle.std.specs.List.{AllByRecursion}
 use Rattle.std.specs.Str.{bytes_eq}
 use Rattle.model.specs.declared.Operator.{Operator}
 use Rattle.model.specs.declared.Operator.TheVariants.{Plus, Minus, Times}
@@ -40,7 +40,7 @@ reserved =
 
 -- a letter, and up to 11 letters and digits
 abbrev pub IsWord : Word → Type 0
-IsWord w = (is_letter (slice_index_or w 0 256) ≡ true) × All (λ c. is_word c ≡ true) w × (length w ≤ 12)
+IsWord w = (is_letter (slice_index_or w 0 256) ≡ true) × AllByRecursion (λ c. is_word c ≡ true) w × (length w ≤ 12)
 
 abbrev pub IsName : Word → Type 0
 IsName w = IsWord w × (member w reserved ≡ false)
@@ -53,8 +53,8 @@ pub data Numeral : Type 0 where
 
 abbrev pub IsNumeral : Numeral → Type 0
 IsNumeral nought = Unit {0}
-IsNumeral (whole d ds) = (is_top d ≡ true) × All (λ c. is_digit c ≡ true) ds
-IsNumeral (minus d ds) = (is_top d ≡ true) × All (λ c. is_digit c ≡ true) ds
+IsNumeral (whole d ds) = (is_top d ≡ true) × AllByRecursion (λ c. is_digit c ≡ true) ds
+IsNumeral (minus d ds) = (is_top d ≡ true) × AllByRecursion (λ c. is_digit c ≡ true) ds
 
 -- TREES
 
@@ -138,7 +138,7 @@ IsRow (for_all s i c r) = IsName s × IsName i × IsFilter c × IsRow r
 
 abbrev pub IsLine : Line → Type 0
 IsLine (set_line w n) = IsName w × IsNumeral n
-IsLine (table_line w r c k ks) = IsName w × IsNumeral r × IsNumeral c × IsNumeral k × All IsNumeral ks
+IsLine (table_line w r c k ks) = IsName w × IsNumeral r × IsNumeral c × IsNumeral k × AllByRecursion IsNumeral ks
 IsLine (array_line w r c l h) = IsName w × IsNumeral r × IsNumeral c × IsNumeral l × IsNumeral h
 IsLine (least_line l) = IsLin l
 IsLine (wish_line r) = IsRow r
@@ -225,7 +225,7 @@ lines_text (l ∷ ls) k = line_text l (lines_text ls k)
 
 -- the first p bytes of x, or all of x where it has no more, begin a text of the grammar
 abbrev pub Begins : ℕ → List ℕ → Type 0
-Begins p x = (ls : List Line) × All IsLine ls × (take p (lines_text ls []) ≡ take p x)
+Begins p x = (ls : List Line) × AllByRecursion IsLine ls × (take p (lines_text ls []) ≡ take p x)
 
 -- p is the first place at which no text goes on as x does; the text's length where x ends too early
 abbrev pub EndsAt : ℕ → List ℕ → Type 0

@@ -2,7 +2,7 @@
 use Rattle.std.proofs.Common.{◌≡◌, ℕ, zero, suc, ◌<◌, Bool, true, false, cond, List, [], ◌∷◌, ◌++◌, map, ℤ, pos, ◌+ℤ◌, ◌-ℤ◌, ◌*ℤ◌, neg_ℤ, ◌≤ℤ◌, sym, refl, ap, ◌∙◌, subst, ap₂, ⊎_elim, le_of_suc-le-suc, eq-or-lt_of_le, arith}
 use lib.IntN.{+ℤ_idl, +ℤ_idr}
 use borrow.Author.Differences.{ints}
-use Rattle.std.specs.List.{AllByRecursion as All}
+use Rattle.std.specs.List.{AllByRecursion}
 use Rattle.std.proofs.ByRecursion.{All-append}
 use Rattle.integer.specs.Sums.{total}
 use Rattle.integer.proofs.Ring.{neg_mul}
@@ -53,29 +53,29 @@ expanded_value s x is (chain g t l) =
     ∙ ap₂ ◌+ℤ◌ (under_value x g (expanded s is t) ∙ ap (signed g) (expanded_value s x is t)) (expanded_value s x is l)
 expanded_value s x is nothing = unfold terms_value in refl
 
-all_parted : {X : Type 0} (P : X → Type 0) (xs ys : List X) → All P (xs ++ ys) → All P xs × All P ys
+all_parted : {X : Type 0} (P : X → Type 0) (xs ys : List X) → AllByRecursion P (xs ++ ys) → AllByRecursion P xs × AllByRecursion P ys
 all_parted P [] ys a = (tt, a)
 all_parted P (x ∷ xs) ys a = let r = all_parted P xs ys a.1 in ((a.0, r.0), r.1)
 
 -- rows of each index below n
-all_rows_in : (P : Row → Type 0) (f : ℕ → List Row) (n : ℕ) → ((i : ℕ) → i < n → All P (f i)) → All P (all_rows f n)
+all_rows_in : (P : Row → Type 0) (f : ℕ → List Row) (n : ℕ) → ((i : ℕ) → i < n → AllByRecursion P (f i)) → AllByRecursion P (all_rows f n)
 unfolding all_rows
 all_rows_in P f zero h = tt
 all_rows_in P f (suc n) h = All-append P (all_rows f n) (f n) (all_rows_in P f n (λ i l. h i (omega arith))) (h n (omega arith))
 
-all_rows_out : (P : Row → Type 0) (f : ℕ → List Row) (n : ℕ) → All P (all_rows f n) → (i : ℕ) → i < n → All P (f i)
+all_rows_out : (P : Row → Type 0) (f : ℕ → List Row) (n : ℕ) → AllByRecursion P (all_rows f n) → (i : ℕ) → i < n → AllByRecursion P (f i)
 unfolding all_rows
 all_rows_out P f zero a i h = absurd (omega arith)
 all_rows_out P f (suc n) a i h =
     let s = all_parted P (all_rows f n) (f n) a in
-    ⊎_elim (λ e. subst (λ j. All P (f j)) (sym e) s.1) (λ l. all_rows_out P f n s.0 i l) (eq-or-lt_of_le (le_of_suc-le-suc h))
+    ⊎_elim (λ e. subst (λ j. AllByRecursion P (f j)) (sym e) s.1) (λ l. all_rows_out P f n s.0 i l) (eq-or-lt_of_le (le_of_suc-le-suc h))
 
-cond_in : (P : Row → Type 0) (b : Bool) (ls : List Row) → (b ≡ true → All P ls) → All P (cond b ls [])
+cond_in : (P : Row → Type 0) (b : Bool) (ls : List Row) → (b ≡ true → AllByRecursion P ls) → AllByRecursion P (cond b ls [])
 cond_in P true ls h = h refl
 cond_in P false ls h = tt
 
-cond_out : (P : Row → Type 0) (b : Bool) (ls : List Row) → All P (cond b ls []) → b ≡ true → All P ls
-cond_out P b ls a e = subst (λ t. All P (cond t ls [])) e a
+cond_out : (P : Row → Type 0) (b : Bool) (ls : List Row) → AllByRecursion P (cond b ls []) → b ≡ true → AllByRecursion P ls
+cond_out P b ls a e = subst (λ t. AllByRecursion P (cond t ls [])) e a
 
 -- what a row of two sides comes to is the left one less the right one
 pub sides_value : (s : Symbols) (x : Assignment) (is : List ℕ) (l r : Lin) → affine_value x (followed (expanded s is l) (under Negative (expanded s is r))) ≡ value s x is l -ℤ value s x is r
@@ -83,13 +83,13 @@ sides_value s x is l r =
     followed_value x (expanded s is l) (under Negative (expanded s is r))
     ∙ ap₂ ◌+ℤ◌ (expanded_value s x is l) (under_value x Negative (expanded s is r) ∙ ap neg_ℤ (expanded_value s x is r))
 
-rows_in : (s : Symbols) (x : Assignment) (is : List ℕ) (c : Constraint) → Meets s x is c → All (RowHolds x) (rows s is c)
+rows_in : (s : Symbols) (x : Assignment) (is : List ℕ) (c : Constraint) → Meets s x is c → AllByRecursion (RowHolds x) (rows s is c)
 unfolding Meets rows
 rows_in s x is (compare c l r) h = (subst (λ z. Compares c z (pos 0)) (sym (sides_value s x is l r)) (moved c _ _ h), tt)
 rows_in s x is (for_all k c r) h =
     all_rows_in (RowHolds x) _ (size_of s k) (λ i l. cond_in (RowHolds x) (passes s (bound is i) c) (rows s (bound is i) r) (λ t. rows_in s x (bound is i) r (h i l t)))
 
-rows_out : (s : Symbols) (x : Assignment) (is : List ℕ) (c : Constraint) → All (RowHolds x) (rows s is c) → Meets s x is c
+rows_out : (s : Symbols) (x : Assignment) (is : List ℕ) (c : Constraint) → AllByRecursion (RowHolds x) (rows s is c) → Meets s x is c
 unfolding Meets rows
 rows_out s x is (compare c l r) h = moved_back c _ _ (subst (λ z. Compares c z (pos 0)) (sides_value s x is l r) h.0)
 rows_out s x is (for_all k c r) h = λ i l t.

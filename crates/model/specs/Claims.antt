@@ -1,6 +1,6 @@
 -- What is claimed of models, each a statement whose proof is owed. Assumes nothing.
 use Rattle.std.specs.Prelude.{◌≡◌, ℕ, Bool, true, false, List, [], ◌∷◌, ℤ, ◌≤ℤ◌, Some}
-use Rattle.std.specs.List.{AllByRecursion as All}
+use Rattle.std.specs.List.{AllByRecursion}
 use Rattle.model.specs.Model.{Num, Cond, Lin, Constraint, Symbols, Model}
 use Rattle.model.specs.Meaning.{Assignment, number, holds, value, Meets, Feasible, cost, Outcome, best, Right}
 use Rattle.model.specs.Rows.{expanded, affine_value, rows, RowHolds}
@@ -15,7 +15,7 @@ ExpandedValue = (s : Symbols) (x : Assignment) (is : List ℕ) (l : Lin) → aff
 -- expanded rows hold exactly if the constraint is met
 abbrev pub ExpandedRows : Type 0
 ExpandedRows =
-    (s : Symbols) (x : Assignment) (is : List ℕ) (c : Constraint) → (Meets s x is c → All (RowHolds x) (rows s is c)) × (All (RowHolds x) (rows s is c) → Meets s x is c)
+    (s : Symbols) (x : Assignment) (is : List ℕ) (c : Constraint) → (Meets s x is c → AllByRecursion (RowHolds x) (rows s is c)) × (AllByRecursion (RowHolds x) (rows s is c) → Meets s x is c)
 
 -- without one of its constraints a model's best costs no more
 abbrev pub FewerConstraints : Type 0
@@ -25,7 +25,7 @@ FewerConstraints =
 
 -- each worked model's outcome is right
 abbrev pub WorkedRight : Type 0
-WorkedRight = All (λ (c : Case). Right c.model c.outcome) worked_models
+WorkedRight = AllByRecursion (λ (c : Case). Right c.model c.outcome) worked_models
 
 -- what is worked out step by step is what is meant
 pub record WorkedOut : Type 0 where

@@ -1,6 +1,6 @@
 -- What a model means: values, feasible assignments, and which outcomes are right. No bounds on sizes, no solver, no memory in it. Assumes nothing.
 use Rattle.std.specs.Prelude.{◌≡◌, ℕ, zero, suc, ◌+◌, ◌*◌, ◌^◌, ◌<◌, Bool, true, false, cond, not, ◌&&◌, List, [], ◌∷◌, ◌++◌, replicate, ℤ, pos, negsuc, ◌+ℤ◌, ◌-ℤ◌, ◌*ℤ◌, neg_ℤ, ◌≤ℤ◌, Some, None, Option, int_le, int_lt, nat_lt, slice_index, slice_index_or, unsigned_abs}
-use Rattle.std.specs.List.{AllByRecursion as All}
+use Rattle.std.specs.List.{AllByRecursion}
 use Rattle.integer.specs.Sums.{total}
 use Rattle.model.specs.declared.Operator.{Operator}
 use Rattle.model.specs.declared.Operator.TheVariants.{Plus, Minus, Times}
@@ -132,7 +132,7 @@ uppers s = spread (λ a. a.upper) s.arrays
 -- every variable within its bounds, and every constraint met
 pub record Feasible (m : Model) (x : Assignment) : Type 0 where
   pub within : (u : ℕ) → u < variables m.symbols.arrays → (slice_index_or (lowers m.symbols) u (pos 0) ≤ℤ x u) × (x u ≤ℤ slice_index_or (uppers m.symbols) u (pos 0))
-  pub meets : All (Meets m.symbols x []) m.constraints
+  pub meets : AllByRecursion (Meets m.symbols x []) m.constraints
 
 unfoldable pub cost : Model → Assignment → ℤ
 cost m x = value m.symbols x [] m.objective

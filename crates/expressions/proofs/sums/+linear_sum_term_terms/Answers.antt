@@ -332,8 +332,8 @@ term-returns-in_err-end t c =
     let letter = ap is_letter (sym c.look.ensures) ∙ sym c.if-not-is_letter.ensures in
     record { told = told_exit _ _ _ _ c.from_residual-in_err-end.result c.from_residual-in_err-end.ensures.1 (term_broken x ns left most nest at _ letter c.in_err-end.ensures.told); kept = agree_self _ _ _; held = agree_self _ _ _ }
 
-pub term-returns-in_err-first-2 : goal.term-returns-in_err-first-2
-term-returns-in_err-first-2 t c =
+pub term-returns-in_err-first-in-Name : goal.term-returns-in_err-first-in-Name
+term-returns-in_err-first-in-Name t c =
     let x = c.args.text.now in
     let ns = names_in x c.args.scope.now in
     let left = c.args.left in
@@ -345,7 +345,7 @@ term-returns-in_err-first-2 t c =
     let end = c.in_ok-end.end in
     let way = term_name x ns left most nest at w end letter h (λ k e. c.in-Name.ensures k (sym p.2 ∙ e)) in
     let e1 = ap (λ v. named x ns left (num x ns (left - 1)) at v end) p.2 in
-    record { told = told_exit _ _ _ _ c.from_residual-in_err-first-2.result c.from_residual-in_err-first-2.ensures.1 (way ∙ then_bad _ (e1 ∙ c.in_err-first-2.ensures.told)); kept = c.named.ensures.kept; held = agree_self _ _ _ }
+    record { told = told_exit _ _ _ _ c.from_residual-in_err-first-in-Name.result c.from_residual-in_err-first-in-Name.ensures.1 (way ∙ then_bad _ (e1 ∙ c.in_err-first-in-Name.ensures.told)); kept = c.named.ensures.kept; held = agree_self _ _ _ }
 
 pub term-after_number-requires-in-Name : goal.term-after_number-requires-in-Name
 term-after_number-requires-in-Name t c =
@@ -355,7 +355,7 @@ term-after_number-requires-in-Name t c =
     let most = length x + 1 in
     let nest = c.args.nest in
     let at = c.args.at in
-    let (n, h, p) = c.in_ok-first-2.ensures.told in
+    let (n, h, p) = c.in_ok-first-in-Name.ensures.told in
     let w = p.words in
     let s = p.short in
     let f = p.forward in
@@ -363,8 +363,8 @@ term-after_number-requires-in-Name t c =
     let long = c.named.ensures.kept.long in
     record { room = (s, omega arith, omega arith); number = (p.inside, p.placed.1) }
 
-pub term-returns-in_ok-first-2 : goal.term-returns-in_ok-first-2
-term-returns-in_ok-first-2 t c =
+pub term-returns-in_ok-first-in-Name : goal.term-returns-in_ok-first-in-Name
+term-returns-in_ok-first-in-Name t c =
     let x = c.args.text.now in
     let ns = names_in x c.args.scope.now in
     let left = c.args.left in
@@ -376,16 +376,16 @@ term-returns-in_ok-first-2 t c =
     let end = c.in_ok-end.end in
     let way = term_name x ns left most nest at w end letter h (λ k e. c.in-Name.ensures k (sym p.2 ∙ e)) in
     let e1 = ap (λ v. named x ns left (num x ns (left - 1)) at v end) p.2 in
-    let (n, i, q) = c.in_ok-first-2.ensures.told in
+    let (n, i, q) = c.in_ok-first-in-Name.ensures.told in
     let s = c.named.ensures.kept in
     record {
       told = told_on _ _ _ _ _ c.after_number-in-Name.result (way ∙ then_ok _ (e1 ∙ i)) (λ f r o. o) (c.after_number-in-Name.ensures.told n at c.args.free c.args.words.now c.requires.room.1 s q);
-      kept = agree_more c.args.free c.in_ok-first-2.first.next c.args.words.now c.named.new.words c.after_number-in-Name.new.words q.forward s c.after_number-in-Name.ensures.kept;
+      kept = agree_more c.args.free c.in_ok-first-in-Name.first.next c.args.words.now c.named.new.words c.after_number-in-Name.new.words q.forward s c.after_number-in-Name.ensures.kept;
       held = agree_self _ _ _;
     }
 
-pub term-returns-in_err-node : goal.term-returns-in_err-node
-term-returns-in_err-node t c =
+pub term-returns-in_err-node-in-Sum : goal.term-returns-in_err-node-in-Sum
+term-returns-in_err-node-in-Sum t c =
     let x = c.args.text.now in
     let ns = names_in x c.args.scope.now in
     let left = c.args.left in
@@ -396,10 +396,10 @@ term-returns-in_err-node t c =
     let (w, h, p) = c.in_ok-end.ensures.told in
     let end = c.in_ok-end.end in
     let way = term_sum x ns left most nest at w end letter h (p.2 ∙ c.in-Sum.ensures) in
-    record { told = told_exit _ _ _ _ c.from_residual-in_err-node.result c.from_residual-in_err-node.ensures.1 (way ∙ then_bad _ c.in_err-node.ensures.told); kept = c.sum.ensures.kept; held = c.sum.ensures.held }
+    record { told = told_exit _ _ _ _ c.from_residual-in_err-node-in-Sum.result c.from_residual-in_err-node-in-Sum.ensures.1 (way ∙ then_bad _ c.in_err-node-in-Sum.ensures.told); kept = c.sum.ensures.kept; held = c.sum.ensures.held }
 
-pub term-returns-in_ok-node : goal.term-returns-in_ok-node
-term-returns-in_ok-node t c =
+pub term-returns-in_ok-node-in-Sum : goal.term-returns-in_ok-node-in-Sum
+term-returns-in_ok-node-in-Sum t c =
     let x = c.args.text.now in
     let ns = names_in x c.args.scope.now in
     let left = c.args.left in
@@ -410,9 +410,9 @@ term-returns-in_ok-node t c =
     let (w, h, p) = c.in_ok-end.ensures.told in
     let end = c.in_ok-end.end in
     let way = term_sum x ns left most nest at w end letter h (p.2 ∙ c.in-Sum.ensures) in
-    let (s, i, q) = c.in_ok-node.ensures.told in
+    let (s, i, q) = c.in_ok-node-in-Sum.ensures.told in
     record {
-      told = told_on _ _ _ _ _ c.after.result (way ∙ then_ok _ i) (λ f r o. spaced_made x c.args.words.now c.sum.new.words ns at c.args.free s c.in_ok-node.node f r o q) (c.after.ensures.told s);
+      told = told_on _ _ _ _ _ c.after.result (way ∙ then_ok _ i) (λ f r o. spaced_made x c.args.words.now c.sum.new.words ns at c.args.free s c.in_ok-node-in-Sum.node f r o q) (c.after.ensures.told s);
       kept = c.sum.ensures.kept;
       held = c.sum.ensures.held;
     }

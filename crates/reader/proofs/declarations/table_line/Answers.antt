@@ -8,7 +8,7 @@ use Rattle.tokens.proofs.Steps.{told_exit, then_ok, then_bad}
 use Rattle.reader.proofs.Parts.{table_is}
 use Rattle.reader.proofs.Tabled.{put_done, some_entries, others_are, table_made}
 use Rattle.reader.proofs.declarations.table_line.Goals as goal
-use Rattle.reader.proofs.declarations.table_line.Goals.{After-unwrap-others, After-table-numbers}
+use Rattle.reader.proofs.declarations.table_line.Goals.{After-unwrap-others, After-table_numbers}
 
 pub overflow_sub-wanted : goal.overflow_sub-wanted
 overflow_sub-wanted c = let (s, i, q) = c.in_ok-shape.ensures.told in some_entries q
