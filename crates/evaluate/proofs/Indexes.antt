@@ -1,5 +1,5 @@
 -- The indexes in force, and one more. Assumes nothing.
-use Rattle.std.proofs.Common.{◌≡◌, ℕ, suc, ◌+◌, ◌<◌, List, [], ◌∷◌, ◌++◌, length, take, set, refl, ap, arith}
+use Rattle.std.proofs.Common.{◌≡◌, ℕ, suc, ◌<◌, List, [], ◌∷◌, ◌++◌, length, take, set, refl, ap, arith}
 
 -- a list with room behind it, and an element put there
 pub put_behind : (xs room : List ℕ) (i : ℕ) → 0 < length room → take (suc (length xs)) (set (xs ++ room) (length xs) i) ≡ xs ++ (i ∷ [])

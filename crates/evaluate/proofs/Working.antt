@@ -1,11 +1,11 @@
 -- Sums and constraints in which nothing is worked out. Assumes nothing.
-use Rattle.std.proofs.Common.{◌≡◌, ℕ, zero, suc, ◌<◌, ◌≤◌, Bool, true, false, cond, ◌&&◌, ◌||◌, ltb, ◌⊎◌, List, is_some, Some, None, Option, sym, refl, ap, ◌∙◌, ap₂, inl, inr, ⊎_elim, arith}
+use Rattle.std.proofs.Common.{◌≡◌, ℕ, zero, suc, ◌<◌, ◌≤◌, Bool, true, false, cond, ◌&&◌, ◌||◌, ltb, List, is_some, Some, None, Option, sym, refl, ap, ◌∙◌, ⊎_elim, arith}
 use Rattle.std.proofs.lemmas.Bool.{lt-ltb, le-ltb, and_cases, or_parts, ltb-false}
 use Rattle.model.specs.declared.Sign.{Sign}
 use Rattle.model.specs.declared.Running.{Running}
 use Rattle.model.specs.Model.{Cond, Lin, amount, term, sum_over, chain, nothing, Constraint, compare, for_all, Symbols}
 use Rattle.model.specs.Meaning.{Assignment, size_of, bound}
-use Rattle.model.specs.Evaluation.{then, run, sign_of, worked_filter, summand, instance, worked_sum, worked_constraint, sum_works, constraint_works}
+use Rattle.model.specs.Evaluation.{then, run, sign_of, worked_filter, worked_sum, worked_constraint, sum_works, constraint_works}
 use Rattle.model.specs.Kept.{FilterIn}
 
 -- a condition is there exactly if its place is

@@ -1,5 +1,5 @@
 -- Conditions that were read and written. Assumes nothing.
-use Rattle.std.proofs.Common.{◌≡◌, ℕ, zero, suc, ◌+◌, ◌-◌, ◌*◌, ◌<◌, ◌≤◌, Bool, true, false, cond, ltb, List, [], ◌∷◌, ◌++◌, length, Some, None, sym, refl, ap, ◌∙◌, subst, arith}
+use Rattle.std.proofs.Common.{◌≡◌, ℕ, ◌+◌, ◌≤◌, ltb, List, length, Some, None, sym, refl, subst, arith}
 use Rattle.std.proofs.lemmas.Bool.{and_from, lt-ltb}
 use Rattle.model.specs.declared.Relation.{Relation}
 use Rattle.model.specs.Model as model
@@ -10,8 +10,8 @@ use Rattle.grammar.specs.Grammar.{Num, Cond}
 use Rattle.grammar.specs.Reading.{Names}
 use Rattle.grammar.specs.Says.{num_of, cond_of, filter_of}
 use Rattle.expressions.specs.declared.Node.{Node}
-use Rattle.expressions.specs.Made.{Zero, Made, NumMade}
-use Rattle.expressions.specs.Conditions.{Compared, compared_of, CondMade, FilterMade}
+use Rattle.expressions.specs.Made.{NumMade}
+use Rattle.expressions.specs.Conditions.{compared_of, CondMade, FilterMade}
 use Rattle.expressions.proofs.NumberTrees.{settled_on, zero_on}
 
 pub compared_made : (x us vs ws ys : List ℕ) (at there free next : ℕ) (ns : Names) (o : Relation) (e f : Num) (p q : Node) → p.end + 3 ≤ there → next ≡ q.next + 3 → Agree 0 p.next vs ws

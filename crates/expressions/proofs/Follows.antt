@@ -1,18 +1,14 @@
 -- Terms and what follows them, whatever is made of both. Assumes nothing.
-use Rattle.std.proofs.Common.{◌≡◌, ℕ, zero, suc, ◌+◌, ◌-◌, Bool, true, false, cond, ◌||◌, eqb, List, [], ◌∷◌, Some, None, codes, Option, sym, refl, ap, ◌∙◌, arith}
+use Rattle.std.proofs.Common.{◌≡◌, ℕ, zero, suc, ◌+◌, ◌-◌, Bool, true, false, cond, ◌||◌, eqb, List, Some, None, codes, sym, refl, ap, ◌∙◌}
 use Rattle.std.specs.Str.{bytes_eq}
-use Rattle.std.proofs.lemmas.Bool.{cond-true, cond-false, eq-eqb, ne_eqb, cases_Bool, false≢true}
+use Rattle.std.proofs.lemmas.Bool.{cond-true, cond-false, false≢true}
 use Rattle.model.specs.declared.Sign.{Sign}
 use Rattle.model.specs.declared.Sign.TheVariants.{Positive, Negative}
-use Rattle.model.specs.declared.Comparison.{Comparison}
-use Rattle.model.specs.Model as model
-use Rattle.grammar.specs.declared.Refusal.{Refusal}
-use Rattle.grammar.specs.declared.Refusal.TheVariants.{Syntax, Name, Range}
-use Rattle.grammar.specs.Grammar.{is_letter, Word, member, reserved, Num, Term, alone, times1, times2, Lin, one, more, Sides, last, next, Row, compare, for_all}
-use Rattle.grammar.specs.Reading.{Got, ok, bad, then, byte, taken, literal, word, name, Names, find, array_there, one_place, num, named, place, sum_at, after, after_num, term_then, sign, terms, lin, comparison, is_sign, behind_left, sides, any_row, row, header, Header, with_index}
-use Rattle.grammar.specs.Says.{lin_behind, left_of, right_of, comparison_of, row_of}
+use Rattle.grammar.specs.declared.Refusal.TheVariants.{Syntax, Range}
+use Rattle.grammar.specs.Grammar.{is_letter, Word, member, reserved, Num, Term, times1, times2, Lin, one, more, Sides, last, next, Row, compare, for_all}
+use Rattle.grammar.specs.Reading.{Got, ok, bad, then, byte, taken, literal, word, name, Names, find, array_there, one_place, num, named, place, sum_at, after, after_num, term_then, sign, terms, lin, comparison, is_sign, behind_left, sides, any_row, row, header, with_index}
 use Rattle.tokens.proofs.Steps.{then_ok, then_bad}
-use Rattle.expressions.specs.Sums.{Follow, stops, goes_on, inner_of, deep_of, term_at, Terms, run_end, run_more, spaced_of, sum_of, sides_of, sign_after, term_in, is_spaced, terms_at, terms_on}
+use Rattle.expressions.specs.Sums.{Follow, stops, goes_on, inner_of, deep_of, term_at, Terms, run_more, spaced_of, sum_of, sides_of, sign_after, terms_at, terms_on}
 use Rattle.expressions.proofs.Ways.{then_then, then_same, then_cond, cond_same}
 
 abbrev pub follow : {R : Type 0} → (Term → ℕ → Got R) → (Term → ℕ → Got R) → Follow → ℕ → Got R

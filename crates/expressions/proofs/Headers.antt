@@ -1,7 +1,7 @@
 -- Names that are new. Assumes nothing.
-use Rattle.std.proofs.Common.{◌≡◌, Bool, true, false, not, is_some, Some, None, Option, sym, refl, ap, ◌∙◌}
+use Rattle.std.proofs.Common.{◌≡◌, true, false, not, is_some, Some, None, Option, sym, refl, ap, ◌∙◌}
 use Rattle.grammar.specs.Grammar.{Word}
-use Rattle.grammar.specs.Reading.{Names, Sort, find, free}
+use Rattle.grammar.specs.Reading.{Names, find, free}
 use Rattle.scope.specs.declared.Symbol.{Symbol}
 use Rattle.scope.specs.Names.{sort_told}
 

@@ -1,11 +1,11 @@
 -- Conditions read part by part. Assumes nothing.
-use Rattle.std.proofs.Common.{◌≡◌, ℕ, zero, suc, ◌+◌, ◌-◌, ◌*◌, ◌<◌, ◌≤◌, Bool, true, false, cond, eqb, List, [], ◌∷◌, ◌++◌, Some, None, codes, Option, sym, refl, ap, ◌∙◌, subst, arith}
+use Rattle.std.proofs.Common.{◌≡◌, ℕ, suc, cond, eqb, List, [], ◌∷◌, ◌++◌, Some, None, codes, Option, sym, refl, ap, ◌∙◌}
 use Rattle.std.proofs.lemmas.Bool.{cond-true, cond-false, eq-eqb, ne_eqb}
 use Rattle.model.specs.Model as model
 use Rattle.grammar.specs.declared.Refusal.{Refusal}
 use Rattle.grammar.specs.Grammar.{Num, Cond, only, with_and}
 use Rattle.grammar.specs.Reading.{Got, ok, bad, then, byte, literal, Names, relation, condition}
-use Rattle.grammar.specs.Says.{num_of, cond_of, cond_behind}
+use Rattle.grammar.specs.Says.{cond_of, cond_behind}
 use Rattle.tokens.proofs.Steps.{then_ok, then_bad}
 use Rattle.expressions.specs.Conditions.{Compared, compared_at, compared_of}
 use Rattle.expressions.proofs.Ways.{then_then, then_same, then_cond, cond_same}

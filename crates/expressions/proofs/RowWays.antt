@@ -1,5 +1,5 @@
 -- Ways of reading a comparison and a constraint. Assumes nothing.
-use Rattle.std.proofs.Common.{◌≡◌, ℕ, zero, suc, ◌+◌, ◌-◌, ◌*◌, ◌<◌, ◌≤◌, Bool, true, false, cond, ◌&&◌, eqb, ltb, leb, List, [], ◌∷◌, length, take, drop, Some, None, codes, Option, sym, refl, ap, ◌∙◌, subst, arith, length-drop}
+use Rattle.std.proofs.Common.{◌≡◌, ℕ, zero, suc, ◌+◌, ◌-◌, ◌*◌, ◌<◌, ◌≤◌, Bool, true, false, cond, ◌&&◌, eqb, ltb, leb, List, length, take, drop, Some, codes, Option, sym, refl, ap, ◌∙◌, subst, arith, length-drop}
 use Rattle.std.proofs.lemmas.List.{length-take-le}
 use Rattle.std.specs.Str.{bytes_eq}
 use Rattle.std.proofs.lemmas.Bool.{cond-true, cond-false, eq-eqb, ne_eqb}
@@ -12,19 +12,19 @@ use Rattle.model.specs.Kept.{LinIn, FilterIn, ConstraintIn}
 use Rattle.compose.specs.Agree.{Agree, Settled}
 use Rattle.grammar.specs.declared.Refusal.{Refusal}
 use Rattle.grammar.specs.declared.Refusal.TheVariants.{Syntax}
-use Rattle.grammar.specs.Grammar.{is_letter, Word, Cond, Lin, Sides, Row, compare, for_all}
-use Rattle.grammar.specs.Reading.{Got, ok, bad, then, byte, one_byte, in_length, run_at, literal, word, Names, find, a_set, lin, comparison, row, header, with_index}
+use Rattle.grammar.specs.Grammar.{is_letter, Word, Cond, Lin, Row, compare, for_all}
+use Rattle.grammar.specs.Reading.{Got, ok, bad, then, byte, one_byte, in_length, run_at, literal, word, Names, find, a_set, lin, comparison, row, with_index}
 use Rattle.grammar.specs.Says.{term_of, lin_behind, left_of, right_of, comparison_of, row_of, filter_of, number_of}
 use Rattle.expressions.specs.declared.Node.{Node}
 use Rattle.expressions.specs.declared.Filter.{Filter}
 use Rattle.expressions.specs.declared.Run.{Run}
 use Rattle.expressions.specs.declared.Chain.{Chain}
-use Rattle.expressions.specs.Made.{Zero, Made}
+use Rattle.expressions.specs.Made.{Zero}
 use Rattle.expressions.specs.Conditions.{BoundNames, bound_at, filter_at, FilterMade}
 use Rattle.expressions.specs.Sums.{deep_of, Terms, run_end, run_more, spaced_of, sum_of, sides_of, terms_at, second_byte, sides_at, Item, Stacked, chained, TermsMade, LinMade, RowMade}
 use Rattle.expressions.proofs.Ways.{then_then, then_same, then_cond, cond_same}
 use Rattle.expressions.proofs.NumberTrees.{settled_on, zero_on}
-use Rattle.expressions.proofs.Follows.{end_sides, row_plain, row_all, body_of}
+use Rattle.expressions.proofs.Follows.{row_plain, row_all, body_of}
 use Rattle.expressions.proofs.SumWays.{header_as, differs}
 
 -- COMPARISONS

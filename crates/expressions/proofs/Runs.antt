@@ -1,5 +1,5 @@
 -- Terms that are read one after the other. Assumes nothing.
-use Rattle.std.proofs.Common.{◌≡◌, ℕ, zero, suc, ◌+◌, ◌-◌, ◌*◌, ◌<◌, ◌≤◌, Bool, true, false, cond, List, [], ◌∷◌, Some, None, sym, refl, ap, ◌∙◌, subst, arith}
+use Rattle.std.proofs.Common.{◌≡◌, ℕ, suc, Bool, true, false, List, [], ◌∷◌, Some, None, refl, ap, ◌∙◌}
 use Rattle.model.specs.declared.Sign.{Sign}
 use Rattle.model.specs.Model as model
 use Rattle.grammar.specs.declared.Refusal.{Refusal}
@@ -7,7 +7,7 @@ use Rattle.grammar.specs.Grammar.{Term}
 use Rattle.grammar.specs.Reading.{Got, ok, bad, then, Names}
 use Rattle.grammar.specs.Says.{term_of, lin_behind}
 use Rattle.tokens.proofs.Steps.{then_ok, then_bad}
-use Rattle.expressions.specs.Sums.{Follow, followed, term_at, Terms, run_end, run_more, spaced_of, sum_of, sign_after, term_in, is_spaced, terms_at, terms_on, Item, chained}
+use Rattle.expressions.specs.Sums.{Follow, followed, term_at, Terms, run_end, run_more, sum_of, sign_after, term_in, is_spaced, terms_at, terms_on, Item, chained}
 use Rattle.expressions.proofs.Ways.{then_then}
 
 followed_term : (b : Bool) (t : Term) → term_in (followed b t) ≡ t

@@ -1,13 +1,12 @@
 -- Sums that were read and written. Assumes nothing.
-use Rattle.std.proofs.Common.{◌≡◌, ℕ, zero, suc, ◌+◌, ◌-◌, ◌*◌, ◌<◌, ◌≤◌, List, [], ◌∷◌, length, set, sym, refl, ap, ◌∙◌, subst, arith}
+use Rattle.std.proofs.Common.{◌≡◌, ℕ, ◌+◌, ◌-◌, ◌*◌, ◌<◌, ◌≤◌, List, ◌∷◌, length, set, subst, arith}
 use Rattle.model.specs.declared.Sign.{Sign}
-use Rattle.model.specs.declared.Sign.TheVariants.{Positive}
 use Rattle.model.specs.Model as model
 use Rattle.model.specs.Kept.{LinIn}
 use Rattle.compose.specs.Agree.{Agree, Settled}
 use Rattle.grammar.specs.Grammar.{Term}
 use Rattle.grammar.specs.Reading.{Names}
-use Rattle.grammar.specs.Says.{term_of, lin_behind}
+use Rattle.grammar.specs.Says.{term_of}
 use Rattle.expressions.specs.declared.Node.{Node}
 use Rattle.expressions.specs.declared.Run.{Run}
 use Rattle.expressions.specs.declared.Chain.{Chain}

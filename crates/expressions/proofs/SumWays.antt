@@ -1,28 +1,26 @@
 -- Ways of reading a term, and a sum over a set. Assumes nothing.
-use Rattle.std.proofs.Common.{◌≡◌, ℕ, zero, suc, ◌+◌, ◌-◌, ◌*◌, ◌<◌, ◌≤◌, Bool, true, false, cond, eqb, List, [], ◌∷◌, length, Some, None, codes, Option, sym, refl, ap, ◌∙◌, subst, ⊎_elim, arith}
+use Rattle.std.proofs.Common.{◌≡◌, ℕ, zero, suc, ◌+◌, ◌-◌, ◌<◌, ◌≤◌, Bool, true, false, cond, eqb, List, length, Some, None, codes, Option, sym, refl, ap, ◌∙◌, subst, ⊎_elim, arith}
 use Rattle.std.specs.Str.{bytes_eq}
 use Rattle.std.proofs.lemmas.Slice.Eq.{bytes_eq-Decides}
 use Rattle.std.proofs.lemmas.Bool.{cond-true, cond-false, eq-eqb, ne_eqb, cases_Bool, false≢true}
 use Rattle.model.specs.declared.Sign.TheVariants.{Positive}
-use Rattle.model.specs.declared.Over.{Over}
 use Rattle.model.specs.Model as model
 use Rattle.model.specs.Kept.{FilterIn, LinIn}
 use Rattle.compose.specs.Agree.{Agree, Settled}
 use Rattle.grammar.specs.declared.Refusal.{Refusal}
 use Rattle.grammar.specs.declared.Refusal.TheVariants.{Syntax, Range}
 use Rattle.grammar.specs.Grammar.{is_letter, Word, member, reserved, Cond, Term, Lin, sum_over}
-use Rattle.grammar.specs.Reading.{Got, ok, bad, then, byte, literal, word, name, Names, find, a_set, set_there, free, num, named, lin, header, Header, sum_at, after, term_then, condition, with_index}
+use Rattle.grammar.specs.Reading.{Got, ok, bad, then, byte, literal, word, name, Names, find, a_set, set_there, free, num, named, lin, header, sum_at, term_then, condition, with_index}
 use Rattle.grammar.specs.Says.{term_of, lin_behind, filter_of, number_of}
-use Rattle.tokens.specs.declared.Reserved.{Reserved}
-use Rattle.tokens.specs.declared.Reserved.TheVariants.{Set, Table, Unknown, Least, Wish, From, To, Where, Sum, All, And, Or, Then}
-use Rattle.tokens.specs.Spelling.{spelled, Spells}
+use Rattle.tokens.specs.declared.Reserved.TheVariants.{Sum, All}
+use Rattle.tokens.specs.Spelling.{Spells}
 use Rattle.tokens.proofs.Steps.{then_ok, then_bad}
-use Rattle.tokens.proofs.Named.{some_member, none_member}
+use Rattle.tokens.proofs.Named.{none_member}
 use Rattle.expressions.specs.declared.Node.{Node}
 use Rattle.expressions.specs.declared.Filter.{Filter}
-use Rattle.expressions.specs.Made.{Zero, Made}
+use Rattle.expressions.specs.Made.{Made}
 use Rattle.expressions.specs.Conditions.{BoundNames, bound_at, filter_at, FilterMade}
-use Rattle.expressions.specs.Sums.{stops, goes_on, inner_of, deep_of, term_at, after_at, after_num_at, LinMade}
+use Rattle.expressions.specs.Sums.{inner_of, deep_of, term_at, after_at, after_num_at, LinMade}
 use Rattle.expressions.proofs.Ways.{then_then, then_same, then_cond, cond_same}
 use Rattle.expressions.proofs.NumberTrees.{settled_on, zero_on}
 

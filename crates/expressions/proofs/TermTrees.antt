@@ -1,5 +1,5 @@
 -- Terms that were read and written, and the space behind them. Assumes nothing.
-use Rattle.std.proofs.Common.{◌≡◌, ℕ, zero, suc, ◌+◌, ◌-◌, ◌*◌, ◌<◌, ◌≤◌, Bool, true, false, cond, eqb, List, [], ◌∷◌, length, Some, sym, refl, ap, ◌∙◌, subst, arith}
+use Rattle.std.proofs.Common.{◌≡◌, ℕ, ◌+◌, ◌-◌, ◌≤◌, true, false, cond, eqb, List, length, Some, sym, ap, ◌∙◌, subst, arith}
 use Rattle.std.proofs.lemmas.Bool.{cond-true, cond-false, eq-eqb, ne_eqb}
 use Rattle.model.specs.Model as model
 use Rattle.model.specs.Kept.{NumIn, LinIn}
@@ -7,16 +7,16 @@ use Rattle.compose.specs.Agree.{Agree, Settled}
 use Rattle.compose.proofs.Trees.{amount_tree}
 use Rattle.grammar.specs.declared.Refusal.TheVariants.{Name, Range}
 use Rattle.grammar.specs.Grammar.{is_letter, Word, Num, Term, alone, times1, times2}
-use Rattle.grammar.specs.Reading.{Got, ok, bad, then, byte, name, Names, find, an_array, array_there, one_place, num, place, after, after_num}
+use Rattle.grammar.specs.Reading.{ok, bad, then, byte, name, Names, find, an_array, array_there, one_place, num, place, after, after_num}
 use Rattle.grammar.specs.Says.{num_of, term_of, number_of, row_place, column_place}
 use Rattle.tokens.proofs.Steps.{then_ok}
 use Rattle.scope.specs.declared.Grid.{Grid}
 use Rattle.expressions.specs.declared.Node.{Node}
 use Rattle.expressions.specs.declared.Places.{Places}
 use Rattle.expressions.specs.declared.TermAt.{TermAt}
-use Rattle.expressions.specs.Made.{Zero, Made, NumMade}
+use Rattle.expressions.specs.Made.{Made, NumMade}
 use Rattle.expressions.specs.Places.{Place, one_of, two_of, enough, place_at, row_of, column_of, PlacesMade}
-use Rattle.expressions.specs.Sums.{Follow, stops, goes_on, followed, after_at, after_num_at, variable_at, Spaced, TermMade}
+use Rattle.expressions.specs.Sums.{Follow, stops, goes_on, after_at, after_num_at, variable_at, Spaced, TermMade}
 use Rattle.expressions.proofs.Ways.{placed, place_as, then_then}
 use Rattle.expressions.proofs.NumberTrees.{settled_on, zero_on}
 

@@ -1,7 +1,6 @@
 -- Ways of reading a number, by what stands at its place. Assumes nothing.
-use Rattle.std.proofs.Common.{◌≡◌, ℕ, zero, suc, ◌+◌, ◌-◌, Bool, true, false, cond, not, ◌&&◌, eqb, List, [], ◌∷◌, Some, codes, sym, refl, ap, ◌∙◌, arith}
-use Rattle.std.proofs.lemmas.Bool.{cond-true, cond-false, eq-eqb, ne_eqb, and_from, and_parts}
-use Rattle.grammar.specs.declared.Refusal.{Refusal}
+use Rattle.std.proofs.Common.{◌≡◌, ℕ, zero, suc, ◌-◌, Bool, true, false, cond, not, ◌&&◌, eqb, List, [], ◌∷◌, Some, codes, sym, refl, ap, ◌∙◌, arith}
+use Rattle.std.proofs.lemmas.Bool.{cond-true, cond-false, eq-eqb, ne_eqb}
 use Rattle.grammar.specs.declared.Refusal.TheVariants.{Syntax, Name, Range}
 use Rattle.grammar.specs.Grammar.{is_letter, Word, Num, index, entry1, entry2}
 use Rattle.grammar.specs.Reading.{Got, ok, bad, then, byte, literal, name, Names, find, a_table, an_index, table_there, index_there, one_place, fixed_at, named, num, any_num, pair, place}

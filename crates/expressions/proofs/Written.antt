@@ -1,5 +1,5 @@
 -- Where a node ends that was written. Assumes nothing.
-use Rattle.std.proofs.Common.{◌≡◌, ℕ, Bool, true, false, cond, Some, None, Option, ap, arith}
+use Rattle.std.proofs.Common.{◌≡◌, ℕ, Bool, true, false, cond, Some, None, arith}
 
 pub some_is : (b : Bool) (n m : ℕ) → Some n ≡ cond b (Some m) None → n ≡ m
 some_is true n m e = cc

@@ -1,5 +1,5 @@
 -- Conditions part by part, and what stands behind `sum` or `all`. Assumes nothing.
-use Rattle.std.specs.Prelude.{◌≡◌, ℕ, ◌+◌, ◌*◌, ◌<◌, ◌≤◌, Bool, true, cond, List, [], ◌∷◌, length, Some, None, codes, Option, ◌==◌}
+use Rattle.std.specs.Prelude.{◌≡◌, ℕ, ◌+◌, ◌*◌, ◌≤◌, Bool, true, cond, List, length, Some, None, codes, Option, ◌==◌}
 use Rattle.compose.specs.Agree.{Settled}
 use Rattle.compose.specs.Writes.{filter_before}
 use Rattle.model.specs.declared.Relation.{Relation}
@@ -8,7 +8,7 @@ use Rattle.model.specs.Kept.{CondIn, FilterIn}
 use Rattle.grammar.specs.declared.Refusal.TheVariants.{Name, Range}
 use Rattle.grammar.specs.Grammar.{Word, Num, Cond}
 use Rattle.grammar.specs.Reading.{Got, ok, bad, then, byte, literal, name, Names, find, set_there, free, num, relation, condition}
-use Rattle.grammar.specs.Says.{num_of, cond_of, filter_of}
+use Rattle.grammar.specs.Says.{num_of, filter_of}
 use Rattle.expressions.specs.declared.Node.{Node}
 use Rattle.expressions.specs.declared.Filter.{Filter}
 use Rattle.expressions.specs.Made.{Zero, Made}

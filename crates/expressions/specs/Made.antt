@@ -1,5 +1,5 @@
 -- What was read and written, and that the words are enough for what may still be read. Assumes nothing.
-use Rattle.std.specs.Prelude.{◌≡◌, ℕ, ◌+◌, ◌-◌, ◌*◌, ◌<◌, ◌≤◌, List, length, pos}
+use Rattle.std.specs.Prelude.{ℕ, ◌+◌, ◌-◌, ◌*◌, ◌<◌, ◌≤◌, List, length}
 use Rattle.model.specs.Kept.{NumIn}
 use Rattle.compose.specs.Agree.{Settled}
 use Rattle.grammar.specs.Grammar.{Num}

@@ -1,5 +1,5 @@
 -- Signs by their bytes, and numbers with their signs. Assumes nothing.
-use Rattle.std.specs.Prelude.{ℕ, Bool, true, false, cond, ℤ, pos, neg_ℤ, Some, None, Option, ◌==◌}
+use Rattle.std.specs.Prelude.{ℕ, cond, ℤ, pos, neg_ℤ, Some, None, Option, ◌==◌}
 use Rattle.model.specs.declared.Operator.{Operator}
 use Rattle.model.specs.declared.Operator.TheVariants.{Plus, Minus, Times}
 use Rattle.tokens.specs.declared.Number.{Number}

@@ -1,5 +1,5 @@
 -- Every model that a text says is in bounds. Assumes nothing.
-use Rattle.std.proofs.Common.{◌≡◌, ℕ, ◌<◌, ◌≤◌, true, List, [], ◌∷◌, map, length, pos, neg_ℤ, nat_abs, ◌≤ℤ◌, sym, refl, subst, arith}
+use Rattle.std.proofs.Common.{◌≡◌, ◌<◌, ◌≤◌, true, List, [], ◌∷◌, map, length, pos, neg_ℤ, nat_abs, ◌≤ℤ◌, sym, refl, subst, arith}
 use Rattle.std.specs.List.{AllByRecursion}
 use Rattle.std.proofs.ByRecursion.{All-weaker, All-push, All-map}
 use Rattle.std.proofs.lemmas.List.{length_push, length-map}

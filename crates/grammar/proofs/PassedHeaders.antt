@@ -1,7 +1,7 @@
 -- Conditions, and what stands behind `sum` or `all`, pass. Assumes nothing.
 use Rattle.std.proofs.Common.{◌≡◌, ℕ, zero, suc, ◌<◌, ◌≤◌, Bool, false, eqb, List, ◌∷◌, ◌++◌, length, drop, Some, None, codes, Option, refl, arith}
 use Rattle.grammar.specs.Grammar.{Word, IsName, relation_text, num_text, Cond, only, with_and, IsCond, cond_text, IsFilter, over_text}
-use Rattle.grammar.specs.Reading.{byte, name, Names, find, set_there, free, num, condition, with_index, header}
+use Rattle.grammar.specs.Reading.{byte, Names, find, set_there, free, num, condition, with_index, header}
 use Rattle.grammar.specs.Fine.{FineCond, FineFilter, FineHeader}
 use Rattle.grammar.proofs.Bytes.{drop_size}
 use Rattle.grammar.proofs.Passes.{Passes, pass_ok, pass_then, pass_see, pass_skip, no_range, pass_name_test, pass_range_not}

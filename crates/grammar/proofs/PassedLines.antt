@@ -4,7 +4,7 @@ use lib.Signed.{le_z}
 use Rattle.std.specs.List.{AllByRecursion}
 use Rattle.std.proofs.lemmas.Bool.{both_ways, lt-leb, ne_eqb}
 use Rattle.grammar.specs.Grammar.{Word, IsName, Numeral, IsNumeral, numeral_text, lin_text, row_text, numerals_text, Line, set_line, table_line, array_line, least_line, wish_line, IsLine, line_text, lines_text}
-use Rattle.grammar.specs.Reading.{byte, name, size, value, small, within, Names, free, State, set_at, shape, numerals, table_at, bound_small, array_at, least_at, wish_at, line, behind, lines}
+use Rattle.grammar.specs.Reading.{byte, size, value, small, within, Names, free, State, set_at, shape, numerals, table_at, bound_small, array_at, least_at, wish_at, line, behind, lines}
 use Rattle.grammar.specs.Fine.{FineLine, FineLines}
 use Rattle.grammar.proofs.Passes.{Passes, pass_ok, pass_then, pass_see, pass_skip, pass_test, no_name, no_range, pass_name_test, pass_range_test, pass_range_not}
 use Rattle.grammar.proofs.Lengths.{line_long}

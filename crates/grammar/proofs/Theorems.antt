@@ -1,10 +1,10 @@
 -- Reading is right: the three judgements put together. Assumes nothing.
-use Rattle.std.proofs.Common.{◌≡◌, ℕ, suc, ◌+◌, ◌<◌, List, [], length, get_or, take, sym, ap, ◌∙◌, subst, arith}
+use Rattle.std.proofs.Common.{◌≡◌, ℕ, suc, ◌+◌, List, [], length, get_or, take, sym, ap, ◌∙◌, subst, arith}
 use Rattle.std.proofs.lemmas.List.{get_or-take}
 use Rattle.grammar.specs.declared.Refusal.{Refusal}
 use Rattle.grammar.specs.declared.Refusal.TheVariants.{Syntax}
 use Rattle.grammar.specs.Grammar.{Line, lines_text, Begins}
-use Rattle.grammar.specs.Reading.{ok, bad, at_first, lines, reading}
+use Rattle.grammar.specs.Reading.{bad, at_first, lines, reading}
 use Rattle.grammar.specs.Fine.{Written}
 use Rattle.grammar.specs.Says.{OneModel, model_of}
 use Rattle.grammar.specs.Claims.{ReadsRight}

@@ -1,5 +1,5 @@
 -- Models in bounds: as many sets, tables, arrays and constraints as there may be, of sizes as they may have; numbers in range; indexes that are bound; sums and alls at most 8 deep. Assumes nothing.
-use Rattle.std.specs.Prelude.{◌≡◌, ℕ, suc, ◌*◌, ◌<◌, ◌≤◌, List, length, ℤ, pos, neg_ℤ, ◌≤ℤ◌, Some, None, Option, unsigned_abs}
+use Rattle.std.specs.Prelude.{◌≡◌, ℕ, suc, ◌*◌, ◌<◌, ◌≤◌, List, length, pos, neg_ℤ, ◌≤ℤ◌, Some, None, Option, unsigned_abs}
 use Rattle.std.specs.List.{AllByRecursion}
 use Rattle.model.specs.Model.{Num, fixed, index, entry, joined, Cond, relate, both, Lin, amount, term, sum_over, chain, nothing, Constraint, compare, for_all, Table, Array, Symbols, Model}
 use Rattle.model.specs.Kept.{depth, sum_depth}

@@ -1,7 +1,7 @@
 -- Which grammatical lines have no fault of names or ranges: each name is there, of its sort, and new where it has to be; numbers are in range; nothing is too many, too deep or too long. Assumes nothing.
-use Rattle.std.specs.Prelude.{◌≡◌, ℕ, zero, suc, ◌*◌, ◌<◌, ◌≤◌, Bool, true, false, List, [], ◌∷◌, length, ◌≤ℤ◌, Some, None, Option}
+use Rattle.std.specs.Prelude.{◌≡◌, ℕ, zero, suc, ◌*◌, ◌<◌, ◌≤◌, true, false, List, [], ◌∷◌, length, ◌≤ℤ◌, Some, None, Option}
 use Rattle.std.specs.List.{AllByRecursion}
-use Rattle.grammar.specs.Grammar.{Word, Numeral, Num, fixed, index, entry1, entry2, joined, Cond, only, with_and, Term, alone, times1, times2, sum_over, Lin, one, more, Sides, last, next, Row, compare, for_all, Line, set_line, table_line, array_line, least_line, wish_line, IsLine, lines_text}
+use Rattle.grammar.specs.Grammar.{Word, Num, fixed, index, entry1, entry2, joined, Cond, only, with_and, Term, alone, times1, times2, sum_over, Lin, one, more, Sides, last, next, Row, compare, for_all, Line, set_line, table_line, array_line, least_line, wish_line, IsLine, lines_text}
 use Rattle.grammar.specs.Reading.{Names, find, set_there, table_there, array_there, index_there, one_place, free, with_index, size, value, small, within, bound_small, State, at_first, behind}
 
 -- names ns are there, and so many brackets may be opened within each other

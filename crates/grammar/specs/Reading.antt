@@ -1,5 +1,5 @@
 -- Reading from left to right, which stops at the first fault that it meets: what was read and where it ends, or a refusal. Assumes nothing.
-use Rattle.std.specs.Prelude.{ℕ, zero, suc, ◌+◌, ◌-◌, ◌*◌, Bool, true, false, cond, not, ◌&&◌, ◌||◌, List, [], ◌∷◌, ◌++◌, map, length, drop, ℤ, pos, neg_ℤ, is_some, Some, None, codes, Option, ◌==◌, int_le, nat_le, nat_lt, slice_index_or}
+use Rattle.std.specs.Prelude.{ℕ, zero, suc, ◌+◌, ◌-◌, ◌*◌, Bool, true, false, cond, not, ◌&&◌, ◌||◌, List, [], ◌∷◌, map, length, drop, ℤ, pos, neg_ℤ, is_some, Some, None, codes, Option, ◌==◌, int_le, nat_le, nat_lt, slice_index_or}
 use Rattle.std.specs.Int.Digits.{number_from_digits as number}
 use Rattle.std.specs.Str.{bytes_eq}
 use Rattle.model.specs.declared.Operator.{Operator}

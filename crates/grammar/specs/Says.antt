@@ -1,12 +1,10 @@
 -- What a text says: the model of its lines. Assumes nothing.
-use Rattle.std.specs.Prelude.{◌≡◌, ℕ, Bool, true, false, cond, List, [], ◌∷◌, ◌++◌, map, ℤ, pos, Some, None, Option, ◌==◌}
+use Rattle.std.specs.Prelude.{◌≡◌, ℕ, cond, List, [], ◌∷◌, ◌++◌, map, pos, Some, None, Option, ◌==◌}
 use Rattle.model.specs.declared.Comparison.{Comparison}
-use Rattle.model.specs.declared.Comparison.TheVariants.{AtMost, AtLeast, Exactly}
-use Rattle.model.specs.declared.Relation.{Relation}
 use Rattle.model.specs.declared.Sign.{Sign}
-use Rattle.model.specs.declared.Sign.TheVariants.{Positive, Negative}
+use Rattle.model.specs.declared.Sign.TheVariants.{Positive}
 use Rattle.model.specs.Model as model
-use Rattle.grammar.specs.Grammar.{Word, Num, fixed, index, entry1, entry2, joined, Cond, only, with_and, Term, alone, times1, times2, sum_over, Lin, one, more, Sides, last, next, Row, compare, for_all, Line, set_line, table_line, array_line, least_line, wish_line}
+use Rattle.grammar.specs.Grammar.{Num, fixed, index, entry1, entry2, joined, Cond, only, with_and, Term, alone, times1, times2, sum_over, Lin, one, more, Sides, last, next, Row, compare, for_all, Line, set_line, table_line, array_line, least_line, wish_line}
 use Rattle.grammar.specs.Reading.{Names, find, Sort, a_set, a_table, an_array, an_index, with_index, size, value, State, at_first, behind}
 use Rattle.grammar.specs.Fine.{Written}
 

@@ -1,5 +1,5 @@
 -- Laws of the quotient rounded down. Assumes nothing.
-use Rattle.std.proofs.Common.{◌≡◌, ℕ, suc, ◌*◌, ◌/◌, ◌<◌, ◌≤◌, cond, ℤ, pos, negsuc, ◌+ℤ◌, ◌*ℤ◌, ◌≤ℤ◌, ◌<ℤ◌, Some, refl, mod-lt, mul_comm, div-lt_iff_lt-mul, div-add-mod' as div_add_mod'', le-div_iff_mul-le, arith}
+use Rattle.std.proofs.Common.{◌≡◌, ℕ, suc, ◌*◌, ◌/◌, ◌<◌, ◌≤◌, ℤ, pos, negsuc, ◌+ℤ◌, ◌*ℤ◌, ◌≤ℤ◌, ◌<ℤ◌, Some, refl, mod-lt, mul_comm, div-lt_iff_lt-mul, div-add-mod' as div_add_mod'', le-div_iff_mul-le, arith}
 use lib.Signed.{shr_z}
 use borrow.Author.Differences.{ints}
 use Rattle.std.specs.Int.{int_div_euclid}

@@ -1,5 +1,5 @@
 -- Comparisons of two sides, and the tests of them. Assumes nothing.
-use Rattle.std.proofs.Common.{◌≡◌, ℤ, pos, ◌-ℤ◌, ◌≤ℤ◌, Decides, sym, arith}
+use Rattle.std.proofs.Common.{ℤ, pos, ◌-ℤ◌, ◌≤ℤ◌, Decides, sym, arith}
 use lib.Signed.{le_z}
 use borrow.Author.Differences.{ints}
 use Rattle.std.proofs.lemmas.Bool.Decides.{Decides-like, Decides-and}

@@ -1,5 +1,5 @@
 -- Expanded rows hold exactly if the constraints do. Assumes nothing.
-use Rattle.std.proofs.Common.{◌≡◌, ℕ, zero, suc, ◌<◌, Bool, true, false, cond, List, [], ◌∷◌, ◌++◌, map, ℤ, pos, ◌+ℤ◌, ◌-ℤ◌, ◌*ℤ◌, neg_ℤ, ◌≤ℤ◌, sym, refl, ap, ◌∙◌, subst, ap₂, ⊎_elim, le_of_suc-le-suc, eq-or-lt_of_le, arith}
+use Rattle.std.proofs.Common.{◌≡◌, ℕ, zero, suc, ◌<◌, Bool, true, false, cond, List, [], ◌∷◌, ◌++◌, map, ℤ, pos, ◌+ℤ◌, ◌-ℤ◌, neg_ℤ, sym, refl, ap, ◌∙◌, subst, ap₂, ⊎_elim, le_of_suc-le-suc, eq-or-lt_of_le, arith}
 use lib.IntN.{+ℤ_idl, +ℤ_idr}
 use borrow.Author.Differences.{ints}
 use Rattle.std.specs.List.{AllByRecursion}
@@ -9,7 +9,7 @@ use Rattle.integer.proofs.Ring.{neg_mul}
 use Rattle.model.specs.declared.Sign.{Sign}
 use Rattle.model.specs.declared.Sign.TheVariants.{Positive, Negative}
 use Rattle.model.specs.Model.{Lin, amount, term, sum_over, chain, nothing, Constraint, compare, for_all, Symbols}
-use Rattle.model.specs.Meaning.{Assignment, number, passes, bound, size_of, present, variable, signed, value, Compares, Meets}
+use Rattle.model.specs.Meaning.{Assignment, number, passes, bound, size_of, present, signed, value, Compares, Meets}
 use Rattle.model.specs.Rows.{Term, Affine, Row, constantly, turned, under, followed, all_followed, expanded, all_rows, rows, terms_value, affine_value, RowHolds}
 use Rattle.model.specs.Claims.{ExpandedValue, ExpandedRows}
 use Rattle.model.proofs.Comparisons.{moved, moved_back}

@@ -1,11 +1,11 @@
 -- Sets, tables and arrays, as words have them. Assumes nothing.
-use Rattle.std.proofs.Common.{◌≡◌, ℕ, ◌+◌, ◌*◌, ◌<◌, ◌≤◌, Bool, true, false, cond, ◌&&◌, List, get_or, ℤ, pos, negsuc, nat_abs, is_some, Some, None, Option, sym, refl, ap, ◌∙◌, subst, ap₂, mul-le-mul, arith, w64, to_z}
+use Rattle.std.proofs.Common.{◌≡◌, ℕ, ◌+◌, ◌*◌, ◌<◌, ◌≤◌, Bool, true, false, cond, ◌&&◌, List, get_or, ℤ, pos, negsuc, nat_abs, Some, None, Option, sym, refl, ap, ◌∙◌, subst, ap₂, mul-le-mul, arith, w64, to_z}
 use lib.Arith.{digits_lt}
 use Rattle.std.proofs.lemmas.Bool.{le-ltb, cond-true, cond-false}
-use Rattle.model.specs.Model.{Table, Array, Symbols}
-use Rattle.model.specs.Meaning.{below, inside, place, entry_of, size_of, table_of, array_of, present, variable, first, no_table, no_array}
-use Rattle.model.specs.Words.{word, set_count, table_count, array_count, set_size, table_rows, table_columns, table_start, array_rows, array_columns, array_first}
-use Rattle.model.specs.Kept.{listed, table_in, array_in, symbols_in, Numbered}
+use Rattle.model.specs.Model.{Table, Array}
+use Rattle.model.specs.Meaning.{below, inside, place, entry_of, table_of, array_of, present, variable, first, no_table, no_array}
+use Rattle.model.specs.Words.{word, table_count, array_count, table_rows, table_columns, table_start, array_rows, array_columns, array_first}
+use Rattle.model.specs.Kept.{table_in, array_in, symbols_in, Numbered}
 use Rattle.model.proofs.Listed.{listed_at, listed_past}
 
 below_some : (n : ℕ) (i : ℤ) (a : ℕ) → Some a ≡ cond (below n i) (Some (nat_abs i)) None → (below n i ≡ true) × (a ≡ nat_abs i)

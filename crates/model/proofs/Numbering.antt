@@ -1,5 +1,5 @@
 -- The numbers of variables: each lies below how many there are, and each has its array's bounds. Assumes nothing.
-use Rattle.std.proofs.Common.{◌≡◌, ℕ, zero, suc, ◌+◌, ◌*◌, ◌<◌, true, List, [], ◌∷◌, ◌++◌, length, get_or, replicate, ℤ, pos, negsuc, refl, ◌∙◌, zero-add, arith}
+use Rattle.std.proofs.Common.{◌≡◌, ℕ, zero, suc, ◌+◌, ◌*◌, ◌<◌, true, List, [], ◌∷◌, length, get_or, replicate, ℤ, pos, negsuc, refl, ◌∙◌, zero-add, arith}
 use lib.Arith.{digits_lt}
 use Rattle.std.proofs.lemmas.List.{length-append, length-replicate, get_or-replicate, get_or_append_left, get_or-append-add}
 use Rattle.std.proofs.lemmas.Bool.{ltb-true, and_parts, false≢true}

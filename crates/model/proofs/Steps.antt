@@ -1,5 +1,5 @@
 -- What is worked out step by step is what is meant. Assumes nothing.
-use Rattle.std.proofs.Common.{◌≡◌, ℕ, zero, suc, ◌<◌, Bool, true, false, cond, ◌&&◌, List, [], ◌∷◌, ◌++◌, map, get_or, ℤ, pos, ◌+ℤ◌, ◌-ℤ◌, ◌*ℤ◌, neg_ℤ, Some, None, Decides, Option, sym, refl, ap, ◌∙◌, subst, ap₂, ⊎_elim, le_of_suc-le-suc, eq-or-lt_of_le, arith}
+use Rattle.std.proofs.Common.{◌≡◌, ℕ, zero, suc, ◌<◌, Bool, true, false, cond, ◌&&◌, List, [], ◌∷◌, ℤ, pos, ◌+ℤ◌, ◌-ℤ◌, ◌*ℤ◌, Some, None, Decides, Option, sym, refl, ap, ◌∙◌, subst, ap₂, ⊎_elim, le_of_suc-le-suc, eq-or-lt_of_le, arith}
 use lib.IntN.{+ℤ_idr}
 use borrow.Author.Differences.{ints}
 use Rattle.std.proofs.lemmas.Bool.{false≢true}
@@ -10,7 +10,7 @@ use Rattle.model.specs.declared.Sign.TheVariants.{Positive, Negative}
 use Rattle.model.specs.declared.Running.{Running}
 use Rattle.model.specs.Model.{Num, fixed, index, entry, joined, Cond, relate, both, Lin, amount, term, sum_over, chain, nothing, Constraint, compare, for_all, Symbols, Model}
 use Rattle.model.specs.Meaning.{Assignment, number, entry_of, operate, related, holds, passes, bound, size_of, table_of, present, variable, signed, value, Compares, Meets, cost}
-use Rattle.model.specs.Rows.{Term, Affine, constantly, turned, under, followed, all_followed, expanded, terms_value, affine_value}
+use Rattle.model.specs.Rows.{Affine, constantly, under, followed, all_followed, expanded, terms_value}
 use Rattle.model.specs.Evaluation.{then, combined, worked_number, worked_condition, worked_filter, with_constant, with_term, weighted, sign_of, nothing_yet, run, where_so, worked_sum, whole, compared, difference_of, worked_constraint, worked_cost}
 use Rattle.model.specs.Claims.{WorkedOut}
 use Rattle.model.proofs.Expansion.{terms_value-++, terms_value_turned, expanded_value}

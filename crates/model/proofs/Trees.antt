@@ -10,9 +10,9 @@ use Rattle.model.specs.declared.LinNode.{LinNode}
 use Rattle.model.specs.declared.LinNode.TheVariants.{Amount, Term, Sum, Chain, Nothing, Bad as no_lin}
 use Rattle.model.specs.declared.ConstraintNode.{ConstraintNode}
 use Rattle.model.specs.declared.ConstraintNode.TheVariants.{Compare, All, Bad as no_constraint}
-use Rattle.model.specs.Model.{Num, fixed, index, entry, joined, Cond, relate, both, Lin, amount, term, sum_over, chain, nothing, Constraint, compare, for_all, Symbols, Model}
+use Rattle.model.specs.Model.{Num, fixed, index, entry, joined, Cond, relate, both, Lin, amount, term, sum_over, chain, nothing, Constraint, compare, for_all, Model}
 use Rattle.model.specs.Words.{num_at, cond_at, lin_at, constraint_at, constraint_count, constraint_place, objective_place}
-use Rattle.model.specs.Kept.{NumIn, CondIn, FilterIn, LinIn, ConstraintIn, ConstraintsIn, Keeps, symbols_in}
+use Rattle.model.specs.Kept.{NumIn, CondIn, FilterIn, LinIn, ConstraintIn, ConstraintsIn, Keeps}
 use Rattle.model.specs.Claims.{OneModel}
 
 -- the trees that a node allows

@@ -1,8 +1,8 @@
 -- What is claimed of models, each a statement whose proof is owed. Assumes nothing.
-use Rattle.std.specs.Prelude.{◌≡◌, ℕ, Bool, true, false, List, [], ◌∷◌, ℤ, ◌≤ℤ◌, Some}
+use Rattle.std.specs.Prelude.{◌≡◌, ℕ, Bool, true, false, List, ◌∷◌, ℤ, ◌≤ℤ◌, Some}
 use Rattle.std.specs.List.{AllByRecursion}
 use Rattle.model.specs.Model.{Num, Cond, Lin, Constraint, Symbols, Model}
-use Rattle.model.specs.Meaning.{Assignment, number, holds, value, Meets, Feasible, cost, Outcome, best, Right}
+use Rattle.model.specs.Meaning.{Assignment, number, holds, value, Meets, cost, best, Right}
 use Rattle.model.specs.Rows.{expanded, affine_value, rows, RowHolds}
 use Rattle.model.specs.Evaluation.{worked_number, worked_condition, worked_constraint, worked_cost}
 use Rattle.model.specs.Kept.{Keeps}

@@ -1,12 +1,11 @@
 -- A model's words: nodes of expressions, and a head for each set, table, array, constraint and line. Assumes nothing.
-use Rattle.std.specs.Prelude.{ℕ, zero, suc, ◌+◌, ◌*◌, min, Bool, true, false, cond, ◌&&◌, List, [], length, ℤ, Some, None, Option, ◌==◌, nat_le, nat_lt, slice_index}
+use Rattle.std.specs.Prelude.{ℕ, ◌+◌, ◌*◌, min, cond, ◌&&◌, List, length, ℤ, Some, None, ◌==◌, nat_le, nat_lt, slice_index}
 use Rattle.std.specs.Int.{w64}
 use Rattle.std.proofs.Common.{to_z}
 use Rattle.model.specs.declared.Operator.TheVariants.{Plus, Minus, Times}
 use Rattle.model.specs.declared.Relation.TheVariants.{Less, Equal, Differ}
 use Rattle.model.specs.declared.Comparison.TheVariants.{AtMost, AtLeast, Exactly}
 use Rattle.model.specs.declared.Sign.TheVariants.{Positive, Negative}
-use Rattle.model.specs.declared.TermNode.{TermNode}
 use Rattle.model.specs.declared.Over.{Over}
 use Rattle.model.specs.declared.NumNode.{NumNode}
 use Rattle.model.specs.declared.NumNode.TheVariants.{Fixed, Index, Entry, Op, Bad as no_num}

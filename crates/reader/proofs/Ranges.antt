@@ -1,5 +1,5 @@
 -- Numbers that are in range. Assumes nothing.
-use Rattle.std.proofs.Common.{◌≡◌, ℕ, ◌+◌, ◌<◌, ◌≤◌, Bool, true, false, cond, leb, List, ℤ, pos, neg_ℤ, ◌≤ℤ◌, ◌<ℤ◌, refl, ◌∙◌, ap₂, arith}
+use Rattle.std.proofs.Common.{◌≡◌, ℕ, ◌+◌, ◌≤◌, Bool, true, false, cond, leb, List, ℤ, pos, neg_ℤ, ◌≤ℤ◌, ◌<ℤ◌, refl, ◌∙◌, ap₂, arith}
 use lib.Signed.{le_z}
 use Rattle.grammar.specs.Grammar.{Numeral, nought, whole, minus}
 use Rattle.grammar.specs.Reading.{size, value, within}

@@ -1,11 +1,11 @@
 -- What is told of a name, of a set, of a shape and of a variable array. Assumes nothing.
-use Rattle.std.proofs.Common.{◌≡◌, ℕ, ◌+◌, ◌-◌, ◌≤◌, Bool, not, List, length, ℤ, is_some, Some, None, Option, sym, refl, ap, ◌∙◌, subst, arith}
+use Rattle.std.proofs.Common.{◌≡◌, ℕ, ◌+◌, Bool, not, List, ℤ, is_some, Some, None, Option, sym, refl, ap, ◌∙◌, subst, arith}
 use Rattle.compose.specs.declared.Name.{Name}
 use Rattle.grammar.specs.Grammar.{Word, Numeral, set_line, array_line}
 use Rattle.grammar.specs.Reading as reading
 use Rattle.grammar.specs.Reading.{Names, find, free}
 use Rattle.scope.specs.declared.Symbol.{Symbol}
-use Rattle.scope.specs.Names.{part, sort_told}
+use Rattle.scope.specs.Names.{sort_told}
 use Rattle.tokens.specs.declared.Number.{Number}
 use Rattle.tokens.specs.Told.{Part}
 use Rattle.reader.specs.declared.Value.{Value}

@@ -1,4 +1,4 @@
-use Rattle.std.proofs.Common.{◌≡◌, Bool, true, false, cond, ℤ, Some, None, Option, sym, ap, ◌∙◌, ap₂}
+use Rattle.std.proofs.Common.{◌≡◌, true, false, cond, Some, None, sym, ap, ◌∙◌, ap₂}
 use Rattle.model.specs.Evaluation.{then, worked_condition}
 use Rattle.model.specs.Kept.{symbols_in}
 use Rattle.model.specs.Meaning.{related}

@@ -1,4 +1,4 @@
-use Rattle.std.proofs.Common.{◌≡◌, ℕ, ◌+◌, ◌*◌, ◌<◌, true, Some, Option}
+use Rattle.std.proofs.Common.{◌≡◌, ◌+◌, ◌*◌, ◌<◌, true, Some, Option}
 use Rattle.model.specs.Evaluation.{run, instance, worked_constraint}
 use Rattle.model.specs.Kept.{FilterIn, ConstraintIn, Numbered, assignment, depth, symbols_in}
 use Rattle.model.specs.Model.{Cond, Constraint}

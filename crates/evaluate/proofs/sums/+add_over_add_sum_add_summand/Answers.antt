@@ -1,5 +1,5 @@
-use Rattle.std.proofs.Common.{◌≡◌, ℕ, ◌+◌, ◌-◌, ◌<◌, ◌≤◌, length, take, Some, None, sym, refl, ap, ◌∙◌, arith}
-use Rattle.model.specs.Evaluation.{then, run, sign_of, sum_works, summand, where_so, worked_filter, worked_sum}
+use Rattle.std.proofs.Common.{◌≡◌, ◌+◌, ◌-◌, length, take, Some, None, sym, refl, ap, ◌∙◌, arith}
+use Rattle.model.specs.Evaluation.{then, run, summand, where_so, worked_filter, worked_sum}
 use Rattle.model.specs.Kept.{assignment, sum_depth, symbols_in}
 use Rattle.model.specs.Meaning.{bound}
 use Rattle.model.specs.Model.{sum_over}

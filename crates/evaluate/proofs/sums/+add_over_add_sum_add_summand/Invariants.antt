@@ -1,4 +1,4 @@
-use Rattle.std.proofs.Common.{◌≡◌, ℕ, ◌+◌, ◌*◌, ◌^◌, ◌<◌, ◌≤◌, Some, Option}
+use Rattle.std.proofs.Common.{◌≡◌, ◌+◌, ◌*◌, ◌^◌, ◌<◌, ◌≤◌, Some, Option}
 use Rattle.model.specs.Evaluation.{run, summand, worked_sum}
 use Rattle.model.specs.Kept.{FilterIn, LinIn, Numbered, assignment, sum_depth, symbols_in}
 use Rattle.model.specs.Model.{Cond, Lin}

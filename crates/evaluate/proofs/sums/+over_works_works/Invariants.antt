@@ -1,4 +1,4 @@
-use Rattle.std.proofs.Common.{◌≡◌, ℕ, ◌+◌, ◌*◌, ◌≤◌}
+use Rattle.std.proofs.Common.{◌≡◌, ◌+◌, ◌*◌, ◌≤◌}
 use Rattle.model.specs.Evaluation.{sum_works}
 use Rattle.model.specs.Kept.{LinIn, symbols_in}
 use Rattle.model.specs.Model.{Lin}

@@ -1,4 +1,4 @@
-use Rattle.std.proofs.Common.{◌≡◌, ◌+◌, ◌<◌, ◌++◌, length, add-one, arith, length-drop}
+use Rattle.std.proofs.Common.{add-one, arith, length-drop}
 use borrow.Rule.Slice.PartMut.{post_of}
 use Rattle.evaluate.proofs.Indexes.{put_behind}
 use Rattle.evaluate.proofs.sums.extended.Goals as goal

@@ -1,7 +1,7 @@
-use Rattle.std.proofs.Common.{◌≡◌, ◌+◌, ◌-◌, ◌≤◌, true, false, take, drop, sym, refl, ap, ◌∙◌, arith}
+use Rattle.std.proofs.Common.{sym, ap, ◌∙◌, arith}
 use Rattle.std.proofs.lemmas.Bool.{cond-true, cond-false}
 use Rattle.grammar.specs.Reading.{find, free, set_there}
-use Rattle.scope.specs.Names.{names_in, part, sort_told}
+use Rattle.scope.specs.Names.{names_in}
 use Rattle.tokens.proofs.Steps.{then_ok, then_bad, told_exit}
 use Rattle.expressions.specs.Conditions.{bound_at}
 use Rattle.expressions.proofs.Headers.{free_none, free_some}

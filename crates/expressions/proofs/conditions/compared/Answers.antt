@@ -1,9 +1,8 @@
-use Rattle.std.proofs.Common.{◌≡◌, ◌+◌, ◌≤◌, sym, refl, ap, ◌∙◌, subst, arith}
-use Rattle.compose.proofs.Settled.{agree_self}
+use Rattle.std.proofs.Common.{ap, ◌∙◌, arith}
 use Rattle.grammar.specs.Reading.{ok}
 use Rattle.scope.specs.Names.{names_in}
 use Rattle.tokens.proofs.Steps.{then_ok, then_bad, told_exit}
-use Rattle.expressions.specs.Conditions.{Compared, compared_at}
+use Rattle.expressions.specs.Conditions.{compared_at}
 use Rattle.expressions.proofs.NumberTrees.{agree_more}
 use Rattle.expressions.proofs.CondTrees.{compared_made}
 use Rattle.expressions.proofs.conditions.compared.Goals as goal

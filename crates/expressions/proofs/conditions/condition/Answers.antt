@@ -1,7 +1,6 @@
-use Rattle.std.proofs.Common.{◌≡◌, ℕ, suc, ◌+◌, ◌-◌, ◌<◌, ◌≤◌, [], ◌∷◌, ◌++◌, length, sym, refl, ap, ◌∙◌, subst, add-one, arith}
+use Rattle.std.proofs.Common.{◌≡◌, suc, ◌-◌, [], ◌∷◌, ◌++◌, length, sym, ap, ◌∙◌, subst, add-one, arith}
 use Rattle.compose.proofs.Settled.{agree_self}
 use Rattle.grammar.specs.Reading.{condition, num}
-use Rattle.grammar.specs.Says.{cond_of}
 use Rattle.scope.specs.Names.{names_in}
 use Rattle.tokens.proofs.Steps.{then_ok, then_bad, told_exit, inside}
 use Rattle.expressions.specs.Conditions.{CondMade}

@@ -1,4 +1,4 @@
-use Rattle.std.proofs.Common.{◌≡◌, ℕ, ◌+◌, ◌-◌, ◌<◌, ◌≤◌, List, length}
+use Rattle.std.proofs.Common.{◌≡◌, ℕ, ◌+◌, ◌-◌, ◌<◌, List, length}
 use Rattle.compose.specs.Agree.{Agree}
 use Rattle.grammar.specs.Reading.{condition, num}
 use Rattle.grammar.specs.Says.{cond_of}

@@ -1,9 +1,9 @@
-use Rattle.std.proofs.Common.{◌≡◌, ◌+◌, ◌≤◌, eqb, Some, None, sym, refl, ap, ◌∙◌, arith}
+use Rattle.std.proofs.Common.{eqb, Some, None, sym, ◌∙◌, arith}
 use Rattle.std.proofs.lemmas.Bool.{cond-true, cond-false, eq-eqb, ne_eqb}
 use Rattle.compose.proofs.Settled.{agree_self}
 use Rattle.grammar.specs.Reading.{byte}
 use Rattle.scope.specs.Names.{names_in}
-use Rattle.tokens.proofs.Steps.{then_ok, then_bad, told_exit, inside}
+use Rattle.tokens.proofs.Steps.{then_ok, then_bad, told_exit}
 use Rattle.expressions.specs.Conditions.{filter_at}
 use Rattle.expressions.proofs.CondTrees.{no_filter_made, filter_made}
 use Rattle.expressions.proofs.conditions.filter.Goals as goal

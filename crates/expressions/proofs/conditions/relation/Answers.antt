@@ -1,4 +1,4 @@
-use Rattle.std.proofs.Common.{sym, ◌∙◌, arith}
+use Rattle.std.proofs.Common.{arith}
 use Rattle.expressions.proofs.Signs.{relation_none}
 use Rattle.expressions.proofs.conditions.relation.Goals as goal
 

@@ -1,11 +1,10 @@
-use Rattle.std.proofs.Common.{◌≡◌, ℕ, ◌+◌, ◌-◌, ◌<◌, ◌≤◌, length, sym, refl, ap, ◌∙◌, arith}
+use Rattle.std.proofs.Common.{◌+◌, ◌-◌, length, sym, ap, ◌∙◌, arith}
 use Rattle.compose.proofs.Settled.{agree_self}
 use Rattle.grammar.specs.Grammar.{for_all}
 use Rattle.grammar.specs.Reading.{row, with_index}
 use Rattle.scope.specs.Names.{names_in}
 use Rattle.tokens.proofs.Steps.{then_ok, then_bad, told_exit, told_on}
 use Rattle.expressions.specs.Conditions.{bound_at, filter_at}
-use Rattle.expressions.specs.Sums.{deep_of}
 use Rattle.expressions.proofs.NumberTrees.{agree_more}
 use Rattle.expressions.proofs.SumWays.{deep_is, not_deep}
 use Rattle.expressions.proofs.RowWays.{row_sides, row_over, body_is, all_made}

@@ -1,4 +1,4 @@
-use Rattle.std.proofs.Common.{◌≡◌, ◌<◌, length, sym, ap, ◌∙◌, arith}
+use Rattle.std.proofs.Common.{sym, ◌∙◌, arith}
 use Rattle.tokens.proofs.Steps.{inside, told_on}
 use Rattle.expressions.proofs.RowWays.{comparison_less, comparison_more, comparison_equal, comparison_none}
 use Rattle.expressions.proofs.rows.comparison.Goals as goal

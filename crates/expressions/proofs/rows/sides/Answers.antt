@@ -1,6 +1,5 @@
-use Rattle.std.proofs.Common.{◌≡◌, ℕ, suc, ◌+◌, ◌-◌, ◌*◌, ◌<◌, ◌≤◌, true, false, length, sym, refl, ap, ◌∙◌, subst, arith}
+use Rattle.std.proofs.Common.{suc, ◌+◌, ◌<◌, length, sym, ap, ◌∙◌, arith}
 use Rattle.std.proofs.lemmas.Bool.{cond-true, cond-false}
-use Rattle.compose.proofs.Settled.{agree_self}
 use Rattle.grammar.specs.Grammar.{compare}
 use Rattle.grammar.specs.Reading.{ok}
 use Rattle.scope.specs.Names.{names_in}

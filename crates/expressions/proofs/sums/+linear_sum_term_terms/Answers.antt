@@ -1,21 +1,19 @@
-use Rattle.std.proofs.Common.{◌≡◌, ℕ, suc, ◌+◌, ◌-◌, ◌*◌, ◌<◌, ◌≤◌, true, false, eqb, List, [], ◌∷◌, length, set, sym, refl, ap, ◌∙◌, subst, arith}
+use Rattle.std.proofs.Common.{◌≡◌, suc, ◌+◌, ◌-◌, ◌≤◌, [], ◌∷◌, length, set, sym, refl, ap, ◌∙◌, arith}
 use Rattle.std.proofs.lemmas.Bool.{cond-true, cond-false}
-use Rattle.model.specs.declared.Sign.TheVariants.{Positive}
-use Rattle.model.specs.Model as model
 use Rattle.compose.proofs.Settled.{agree_self}
 use Rattle.grammar.specs.Grammar.{is_letter, member, reserved, sum_over}
-use Rattle.grammar.specs.Reading.{ok, then, num, named, lin, with_index}
-use Rattle.grammar.specs.Says.{term_of, lin_behind}
-use Rattle.scope.specs.Names.{names_in, part}
+use Rattle.grammar.specs.Reading.{num, named, lin, with_index}
+use Rattle.grammar.specs.Says.{term_of}
+use Rattle.scope.specs.Names.{names_in}
 use Rattle.tokens.proofs.Steps.{then_ok, then_bad, told_exit, told_on}
 use Rattle.expressions.specs.Conditions.{bound_at, filter_at}
-use Rattle.expressions.specs.Sums.{inner_of, deep_of, followed, Terms, run_end, run_more, spaced_of, sum_of, terms_at, chained, Item}
+use Rattle.expressions.specs.Sums.{inner_of, deep_of, run_end, run_more, spaced_of, sum_of, terms_at}
 use Rattle.expressions.proofs.NumberTrees.{agree_more}
 use Rattle.expressions.proofs.TermTrees.{spaced_made}
-use Rattle.expressions.proofs.Follows.{end_sum, lin_as}
+use Rattle.expressions.proofs.Follows.{lin_as}
 use Rattle.expressions.proofs.Stacks.{stacked_none, push_below}
 use Rattle.expressions.proofs.Runs.{terms_bad, terms_broken, terms_last, terms_more, wrapped, one_more, the_last, wrapped_none, chained_none}
-use Rattle.expressions.proofs.SumWays.{deep_is, not_deep, inner_is, sum_as, body_at, body_none, body_deep, body_open, sum_made, term_number, term_broken, term_name, term_sum, term_stop}
+use Rattle.expressions.proofs.SumWays.{deep_is, not_deep, inner_is, sum_as, body_none, body_deep, body_open, sum_made, term_number, term_broken, term_name, term_sum, term_stop}
 use Rattle.expressions.proofs.SumTrees.{lin_made, turns_enough, term_waits}
 use Rattle.expressions.proofs.SignsAfter.{told_none, told_some, some_spaced}
 use Rattle.expressions.proofs.sums.+linear_sum_term_terms.Goals as goal

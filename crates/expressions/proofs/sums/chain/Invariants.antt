@@ -1,4 +1,4 @@
-use Rattle.std.proofs.Common.{◌≡◌, ℕ, ◌+◌, ◌-◌, ◌*◌, ◌<◌, ◌≤◌, List, length}
+use Rattle.std.proofs.Common.{◌≡◌, ◌+◌, ◌*◌, ◌<◌, ◌≤◌, List}
 use Rattle.model.specs.Kept.{LinIn}
 use Rattle.model.specs.Model as model
 use Rattle.compose.specs.Agree.{Agree, Settled}

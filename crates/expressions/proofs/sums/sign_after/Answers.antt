@@ -1,5 +1,4 @@
-use Rattle.std.proofs.Common.{◌≡◌, ◌+◌, ◌≤◌, true, false, Some, None, sym, refl, ap, ◌∙◌, subst, arith}
-use Rattle.tokens.specs.Told.{Told}
+use Rattle.std.proofs.Common.{Some, None, sym, refl, ap, ◌∙◌, arith}
 use Rattle.tokens.proofs.Steps.{inside, told_exit}
 use Rattle.expressions.specs.Sums.{sign_of, followed, sign_after}
 use Rattle.expressions.proofs.SignsAfter.{no_sign, no_sign_byte, sign_past, sign_bad, sign_read, sign_inside, not-false, not-true}

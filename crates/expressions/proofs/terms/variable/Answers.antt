@@ -1,4 +1,4 @@
-use Rattle.std.proofs.Common.{◌≡◌, ◌+◌, ◌-◌, ◌≤◌, sym, refl, ap, ◌∙◌, arith}
+use Rattle.std.proofs.Common.{ap, ◌∙◌, arith}
 use Rattle.compose.proofs.Settled.{agree_self}
 use Rattle.grammar.specs.Grammar.{times1, times2}
 use Rattle.grammar.specs.Reading.{find, array_there}

@@ -1,4 +1,4 @@
-use Rattle.std.proofs.Common.{◌+◌, ◌≤◌, length, sym, ap, arith, w64, to_z}
+use Rattle.std.proofs.Common.{◌+◌, sym, ap, arith, w64, to_z}
 use Rattle.std.proofs.lemmas.List.{get_or_past}
 use Rattle.model.proofs.symbols.number_behind.Goals as goal
 

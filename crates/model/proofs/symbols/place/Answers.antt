@@ -1,4 +1,4 @@
-use Rattle.std.proofs.Common.{◌≡◌, ℕ, cond, nat_abs, Some, None, Option}
+use Rattle.std.proofs.Common.{◌≡◌, cond, nat_abs, Some, None}
 use lib.Arith.{digits_lt}
 use Rattle.std.proofs.lemmas.Int.{to_z-of_z}
 use Rattle.model.specs.Meaning.{below}

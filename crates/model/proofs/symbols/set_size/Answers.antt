@@ -1,4 +1,4 @@
-use Rattle.std.proofs.Common.{◌≡◌, ◌<◌, ◌≤◌, sym, ◌∙◌, arith}
+use Rattle.std.proofs.Common.{sym, ◌∙◌, arith}
 use Rattle.model.specs.Words.{set_size, set_count}
 use Rattle.model.proofs.Listed.{listed_at, listed_past}
 use Rattle.model.proofs.symbols.set_size.Goals as goal

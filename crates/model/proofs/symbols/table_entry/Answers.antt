@@ -1,7 +1,7 @@
-use Rattle.std.proofs.Common.{◌≡◌, ℕ, ◌+◌, ◌*◌, ◌<◌, ◌≤◌, cond, Some, None, Option, sym, ap, ◌∙◌, subst, arith, w64, SFits, to_z, rules}
+use Rattle.std.proofs.Common.{◌≡◌, ℕ, ◌+◌, ◌<◌, cond, Some, None, Option, sym, ap, ◌∙◌, arith, w64, SFits, to_z, rules}
 use Rattle.std.proofs.lemmas.Int.{to_z-of_z}
 use Rattle.model.specs.Meaning.{inside, place}
-use Rattle.model.specs.Words.{word, table_count, table_rows, table_columns, table_start}
+use Rattle.model.specs.Words.{word, table_count}
 use Rattle.model.proofs.Heads.{same_place, same_below, entry_none, entry_at, entry_beyond}
 use Rattle.model.proofs.symbols.table_entry.Goals as goal
 

@@ -1,4 +1,4 @@
-use Rattle.std.proofs.Common.{ltb, sym, ◌∙◌, arith, rules}
+use Rattle.std.proofs.Common.{ltb, sym, ◌∙◌, arith}
 use Rattle.std.proofs.lemmas.Bool.{cond-true, lt-ltb}
 use Rattle.scope.proofs.Entries.{names_more}
 use Rattle.scope.proofs.names.with_name.Goals as goal
