@@ -1,6 +1,7 @@
 // Checks a certificate against its model. The work is the library's: this program reads the two files.
 #![tactic(auto)]
 
+use std::process::ExitCode;
 use std::{env, io};
 
 const USAGE: &str = "\
@@ -25,18 +26,27 @@ fn misused(rt: &HostRuntime) -> io::Result<()> {
     Err(io::Error::other("two files are wanted"))
 }
 
-fn main(rt: HostRuntime) -> io::Result<()> {
-    let mut args = env::args(&rt)?;
+fn program(rt: &HostRuntime) -> io::Result<()> {
+    let mut args = env::args(rt)?;
     // the first word is the program's own name
     let _ = args.next();
     let Some(model) = args.next() else {
-        return misused(&rt);
+        return misused(rt);
     };
     if model.as_str() == "--help" {
         return print!(rt; "{USAGE}");
     }
     match args.next() {
-        Some(sheet) => run(&rt, model.as_str(), sheet.as_str()),
-        None => misused(&rt),
+        Some(sheet) => run(rt, model.as_str(), sheet.as_str()),
+        None => misused(rt),
+    }
+}
+
+// Status 1 where the work could not be done, and nothing more: what a user can mend (a file that cannot
+// be read, wrong words) has been said on standard error by then.
+fn main(rt: HostRuntime) -> ExitCode {
+    match program(&rt) {
+        Ok(()) => ExitCode::SUCCESS,
+        Err(_) => ExitCode::FAILURE,
     }
 }

@@ -5,7 +5,7 @@
 // looks at five), or if a part of the node does not stand before it. What is refused changes
 // nothing. A node or a number changes no word but its own: those before and behind it stay. The
 // next begins behind it, and each function returns where that is.
-ghost use Rattle.std.specs.Prelude.{◌≡◌, ◌+◌, ◌≤◌, ◌&&◌, ltb, [], ◌∷◌, length, if◌then◌else◌, Some, None, OnSome, nat_lt};
+ghost use Rattle.std.specs.Prelude.{◌≡◌, ◌+◌, ◌≤◌, ◌&&◌, [], ◌∷◌, length, if◌then◌else◌, Some, None, OnSome, nat_lt};
 ghost use Rattle.compose.specs.Agree.{Agree, Behind};
 ghost use Rattle.compose.specs.Writes.{Holds, room, filter_place, filter_before, operator_tag, relation_tag, chain_tag, comparison_tag};
 ghost use Rattle.model.specs.Words.{word, num_at, cond_at, lin_at, constraint_at};
@@ -78,7 +78,7 @@ pub fn put_entry(
     row: usize,
     column: usize,
 ) -> Option<usize>
-    ensures next { result ≡ (if ltb row free && nat_lt column free && room (length words.old) free then Some (free + 4) else None) }
+    ensures next { result ≡ (if nat_lt row free && nat_lt column free && room (length words.old) free then Some (free + 4) else None) }
     ensures refused { result ≡ None → words.new ≡ words.old }
     ensures below { Agree 0 free words.old words.new }
     ensures behind { Behind (free + 4) words.old words.new }
@@ -108,7 +108,7 @@ pub fn put_operation(
     left: usize,
     right: usize,
 ) -> Option<usize>
-    ensures next { result ≡ (if ltb left free && nat_lt right free && room (length words.old) free then Some (free + 3) else None) }
+    ensures next { result ≡ (if nat_lt left free && nat_lt right free && room (length words.old) free then Some (free + 3) else None) }
     ensures refused { result ≡ None → words.new ≡ words.old }
     ensures below { Agree 0 free words.old words.new }
     ensures behind { Behind (free + 3) words.old words.new }
@@ -142,7 +142,7 @@ pub fn put_relation(
     left: usize,
     right: usize,
 ) -> Option<usize>
-    ensures next { result ≡ (if ltb left free && nat_lt right free && room (length words.old) free then Some (free + 3) else None) }
+    ensures next { result ≡ (if nat_lt left free && nat_lt right free && room (length words.old) free then Some (free + 3) else None) }
     ensures refused { result ≡ None → words.new ≡ words.old }
     ensures below { Agree 0 free words.old words.new }
     ensures behind { Behind (free + 3) words.old words.new }
@@ -160,7 +160,7 @@ pub fn put_relation(
 
 // Two conditions that both hold.
 pub fn put_both(words: &mut [u64], free: usize, left: usize, right: usize) -> Option<usize>
-    ensures next { result ≡ (if ltb left free && nat_lt right free && room (length words.old) free then Some (free + 3) else None) }
+    ensures next { result ≡ (if nat_lt left free && nat_lt right free && room (length words.old) free then Some (free + 3) else None) }
     ensures refused { result ≡ None → words.new ≡ words.old }
     ensures below { Agree 0 free words.old words.new }
     ensures behind { Behind (free + 3) words.old words.new }
@@ -174,7 +174,7 @@ pub fn put_both(words: &mut [u64], free: usize, left: usize, right: usize) -> Op
 
 // A number times a variable.
 pub fn put_term(words: &mut [u64], free: usize, term: TermNode) -> Option<usize>
-    ensures next { result ≡ (if ltb term.number free && nat_lt term.row free && nat_lt term.column free && room (length words.old) free then Some (free + 5) else None) }
+    ensures next { result ≡ (if nat_lt term.number free && nat_lt term.row free && nat_lt term.column free && room (length words.old) free then Some (free + 5) else None) }
     ensures refused { result ≡ None → words.new ≡ words.old }
     ensures below { Agree 0 free words.old words.new }
     ensures behind { Behind (free + 5) words.old words.new }
@@ -210,7 +210,7 @@ pub fn put_chain(
     term: usize,
     rest: usize,
 ) -> Option<usize>
-    ensures next { result ≡ (if ltb term free && nat_lt rest free && room (length words.old) free then Some (free + 3) else None) }
+    ensures next { result ≡ (if nat_lt term free && nat_lt rest free && room (length words.old) free then Some (free + 3) else None) }
     ensures refused { result ≡ None → words.new ≡ words.old }
     ensures below { Agree 0 free words.old words.new }
     ensures behind { Behind (free + 3) words.old words.new }
@@ -239,7 +239,7 @@ fn filter_word(filter: Option<usize>, free: usize) -> Option<u64>
 
 // What goes through a set, under a tag.
 fn put_over(words: &mut [u64], free: usize, tag: u64, over: Over) -> Option<usize>
-    ensures next { result ≡ (if ltb over.body free && filter_before over.filter free && room (length words.old) free then Some (free + 4) else None) }
+    ensures next { result ≡ (if nat_lt over.body free && filter_before over.filter free && room (length words.old) free then Some (free + 4) else None) }
     ensures refused { result ≡ None → words.new ≡ words.old }
     ensures below { Agree 0 free words.old words.new }
     ensures behind { Behind (free + 4) words.old words.new }
@@ -258,7 +258,7 @@ fn put_over(words: &mut [u64], free: usize, tag: u64, over: Over) -> Option<usiz
 
 // A sum over a set.
 pub fn put_sum(words: &mut [u64], free: usize, over: Over) -> Option<usize>
-    ensures next { result ≡ (if ltb over.body free && filter_before over.filter free && room (length words.old) free then Some (free + 4) else None) }
+    ensures next { result ≡ (if nat_lt over.body free && filter_before over.filter free && room (length words.old) free then Some (free + 4) else None) }
     ensures refused { result ≡ None → words.new ≡ words.old }
     ensures below { Agree 0 free words.old words.new }
     ensures behind { Behind (free + 4) words.old words.new }
@@ -285,7 +285,7 @@ pub fn put_compare(
     left: usize,
     right: usize,
 ) -> Option<usize>
-    ensures next { result ≡ (if ltb left free && nat_lt right free && room (length words.old) free then Some (free + 3) else None) }
+    ensures next { result ≡ (if nat_lt left free && nat_lt right free && room (length words.old) free then Some (free + 3) else None) }
     ensures refused { result ≡ None → words.new ≡ words.old }
     ensures below { Agree 0 free words.old words.new }
     ensures behind { Behind (free + 3) words.old words.new }
@@ -303,7 +303,7 @@ pub fn put_compare(
 
 // A constraint for all of a set.
 pub fn put_all(words: &mut [u64], free: usize, over: Over) -> Option<usize>
-    ensures next { result ≡ (if ltb over.body free && filter_before over.filter free && room (length words.old) free then Some (free + 4) else None) }
+    ensures next { result ≡ (if nat_lt over.body free && filter_before over.filter free && room (length words.old) free then Some (free + 4) else None) }
     ensures refused { result ≡ None → words.new ≡ words.old }
     ensures below { Agree 0 free words.old words.new }
     ensures behind { Behind (free + 4) words.old words.new }

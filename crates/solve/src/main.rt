@@ -4,6 +4,7 @@
 
 use solver::Outcome;
 use std::io::Write;
+use std::process::ExitCode;
 use std::{env, io};
 
 const USAGE: &str = "\
@@ -36,15 +37,24 @@ fn run(rt: &HostRuntime, model: Option<&str>) -> io::Result<()> {
     print(rt, solver::solve(&text))
 }
 
-fn main(rt: HostRuntime) -> io::Result<()> {
-    let mut args = env::args(&rt)?;
+fn program(rt: &HostRuntime) -> io::Result<()> {
+    let mut args = env::args(rt)?;
     // the first word is the program's own name
     let _ = args.next();
     match args.next() {
-        None => run(&rt, None),
+        None => run(rt, None),
         Some(word) => match word.as_str() {
             "--help" => print!(rt; "{USAGE}"),
-            name => run(&rt, Some(name)),
+            name => run(rt, Some(name)),
         },
+    }
+}
+
+// Status 1 where the work could not be done, and nothing more: what a user can mend (a file that cannot
+// be read, wrong words) has been said on standard error by then.
+fn main(rt: HostRuntime) -> ExitCode {
+    match program(&rt) {
+        Ok(()) => ExitCode::SUCCESS,
+        Err(_) => ExitCode::FAILURE,
     }
 }
