@@ -1,9 +1,13 @@
-// What the programs share: input from a file or from standard input, and a clear line on standard
-// error where it cannot be read. Nothing can be promised of what a file holds, so these functions
-// have no contract beyond being safe and coming to an end.
+// What the programs share: input from a file or from standard input, a clear line on standard error
+// where it cannot be read, and the status that they end with. Nothing can be promised of what a file
+// holds, so the functions that read have no contract beyond being safe and coming to an end.
 #![tactic(auto)]
 
+ghost use Rattle.std.specs.Prelude.{◌≡◌, if◌then◌else◌, is_ok, IsErr, OnOk, OnErr};
+ghost use Rattle.std.specs.Process.{exit_status};
+
 use std::io::Read;
+use std::process::ExitCode;
 use std::{fs, io};
 
 // What was read; where it could not be, a line that says so, with the program's name in front.
@@ -12,7 +16,10 @@ fn reported(
     program: &str,
     name: &str,
     bytes: io::Result<Vec<u8>>,
-) -> io::Result<Vec<u8>> {
+) -> io::Result<Vec<u8>>
+    ensures read { OnOk bytes (result ≡ bytes) }
+    ensures failed { OnErr bytes (IsErr result) }
+{
     if let Err(e) = &bytes {
         eprintln!(rt; "{program}: {name}: cannot be read: {e}")?;
     }
@@ -36,5 +43,17 @@ pub fn read(rt: &HostRuntime, program: &str, file: Option<&str>) -> io::Result<V
     match file {
         Some(name) => read_file(rt, program, name),
         None => reported(rt, program, "standard input", standard_input(rt)),
+    }
+}
+
+// The status that a program ends with: 0, or 1 where its work could not be done. What a user can mend
+// (a file that cannot be read, wrong words) has been said on standard error by then; given back from
+// `main` the error would be printed once more, by its fields.
+pub fn status(done: io::Result<()>) -> ExitCode
+    ensures { exit_status result ≡ (if is_ok done then 0 else 1) }
+{
+    match done {
+        Ok(()) => ExitCode::SUCCESS,
+        Err(_) => ExitCode::FAILURE,
     }
 }

@@ -11,13 +11,12 @@ use Rattle.grammar.specs.Reading.{Names, find, a_table, an_index, value}
 use Rattle.grammar.specs.Says.{num_of, naught, number_of, row_place, column_place}
 use Rattle.scope.specs.declared.Grid.{Grid}
 use Rattle.tokens.specs.declared.Number.{Number}
-use Rattle.tokens.specs.Sizes.{Counts}
+use Rattle.tokens.specs.Sizes.{Counts, value_of}
+use Rattle.tokens.proofs.Counted.{value_told}
 use Rattle.expressions.specs.declared.Node.{Node}
 use Rattle.expressions.specs.declared.Places.{Places}
 use Rattle.expressions.specs.Made.{Zero, Made, NumMade}
-use Rattle.expressions.specs.Signs.{value_of}
 use Rattle.expressions.specs.Places.{Place, one_of, two_of, only_place, row_of, column_of, PlacesMade}
-use Rattle.expressions.proofs.Signs.{value_told}
 use Rattle.expressions.proofs.Ways.{placed as of_places}
 
 -- WHAT STAYS

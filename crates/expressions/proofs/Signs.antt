@@ -1,15 +1,12 @@
--- Signs by their bytes, and what a numeral comes to. Assumes nothing.
-use Rattle.std.proofs.Common.{◌≡◌, ℕ, ◌+◌, ◌<◌, ◌≤◌, min, Bool, true, false, cond, eqb, List, pos, neg_ℤ, Some, None, Option, refl, ap, ◌∙◌, arith}
+-- Operators and relations by their bytes. Assumes nothing.
+use Rattle.std.proofs.Common.{◌≡◌, ℕ, ◌+◌, ◌<◌, Bool, true, false, cond, eqb, List, Some, None, Option, refl, ap, ◌∙◌, arith}
 use Rattle.std.proofs.lemmas.Bool.{cond-true, cond-false, eq-eqb, ne_eqb, eqb-true}
 use Rattle.model.specs.declared.Operator.{Operator}
 use Rattle.model.specs.declared.Operator.TheVariants.{Plus, Minus, Times}
 use Rattle.model.specs.declared.Relation.TheVariants.{Less, Equal, Differ}
 use Rattle.grammar.specs.declared.Refusal.TheVariants.{Syntax, Range}
-use Rattle.grammar.specs.Grammar.{Numeral, nought, whole, minus}
-use Rattle.grammar.specs.Reading.{Got, ok, bad, byte, one_byte, operator, relation, size, value}
-use Rattle.tokens.specs.declared.Number.{Number}
-use Rattle.tokens.specs.Sizes.{is_minus}
-use Rattle.expressions.specs.Signs.{operator_of, value_of}
+use Rattle.grammar.specs.Reading.{Got, ok, bad, byte, one_byte, operator, relation}
+use Rattle.expressions.specs.Signs.{operator_of}
 
 -- what follows a byte that may be a sign
 abbrev pub signed_at : {A : Type 0} → ℕ → Option A → Got A
@@ -39,12 +36,6 @@ operator_inside b o e = go (eqb b 43) (eqb b 45) (eqb b 42) (λ t. eqb-true b 43
   go false true r f g h z = let y = g refl in omega arith
   go false false true f g h z = let y = h refl in omega arith
   go false false false f g h z = let y : ◌≡◌ {A = ℕ} 0 1 = cc in absurd (omega arith)
-
--- a number that was told, in range
-pub value_told : (n : Numeral) (p : Number) → p.size ≡ min 1000001 (size n) → p.negative ≡ is_minus n → p.size ≤ 1000000 → value_of p ≡ value n
-value_told nought p e f l = ap (λ b. cond b (neg_ℤ (pos p.size)) (pos p.size)) f ∙ ap pos e
-value_told (whole d ds) p e f l = let z : p.size ≡ size (whole d ds) = omega arith in ap (λ b. cond b (neg_ℤ (pos p.size)) (pos p.size)) f ∙ ap pos z
-value_told (minus d ds) p e f l = let z : p.size ≡ size (minus d ds) = omega arith in ap (λ b. cond b (neg_ℤ (pos p.size)) (pos p.size)) f ∙ ap (λ s. neg_ℤ (pos s)) z
 
 -- RELATIONS
 

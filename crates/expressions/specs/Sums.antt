@@ -7,8 +7,7 @@ use Rattle.model.specs.declared.Comparison.{Comparison}
 use Rattle.model.specs.Model as model
 use Rattle.model.specs.Words.{word}
 use Rattle.model.specs.Kept.{LinIn, ConstraintIn}
-use Rattle.grammar.specs.declared.Refusal.TheVariants.{Syntax, Range}
-use Rattle.grammar.specs.declared.Refusal.TheVariants.{Name}
+use Rattle.grammar.specs.declared.Refusal.TheVariants.{Syntax, Name, Range}
 use Rattle.grammar.specs.Grammar.{is_letter, Word, member, reserved, Num, Term, times1, times2, Lin, one, more, Sides, last, next, Row, compare}
 use Rattle.grammar.specs.Reading.{Got, ok, bad, then, byte, literal, word as read_word, name, Names, find, array_there, one_place, num, place, after, after_num, term_then, sign, lin, is_sign, taken, comparison}
 use Rattle.grammar.specs.Says.{term_of, lin_behind, row_of}

@@ -1,7 +1,7 @@
 // Conditions, and what stands behind `sum` and `all`: a set, an index, a condition.
 ghost use Rattle.std.specs.Prelude.{◌≡◌, ℕ, suc, ◌+◌, ◌-◌, ◌<◌, ◌≤◌, false, List, length, Some};
 ghost use Rattle.compose.specs.Agree.{Agree};
-ghost use Rattle.expressions.specs.Conditions.{CondMade, FilterMade, bound_at, compared_at, compared_of, filter_at};
+ghost use Rattle.expressions.specs.Conditions.{CondMade, FilterMade, Relates, bound_at, compared_at, compared_of, filter_at};
 ghost use Rattle.expressions.specs.Made.{Room};
 ghost use Rattle.grammar.specs.Reading.{a_set, byte, condition as condition_at, find as found_in, num as num_at, relation as relation_at, with_index};
 ghost use Rattle.grammar.specs.Says.{cond_of};
@@ -10,7 +10,7 @@ ghost use Rattle.tokens.specs.Told.{Told};
 
 use crate::finding::find_set;
 use crate::nodes::{both_node, relation_node};
-use crate::numbers::{LONGEST, number};
+use crate::numbers::number;
 use crate::{Bound, Filter, Node, RelationAt};
 use compose::Name;
 use grammar::Refusal;
@@ -18,12 +18,12 @@ use model::Relation;
 use scope::Symbol;
 use scope::names::{find, indexes, with_name};
 use scope::scopes::Scope;
-use tokens::{literal, look, name};
+use tokens::{LONGEST, literal, look, name};
 
 // The relation at a place.
 fn relation(text: &[u8], at: usize) -> Result<RelationAt, Refusal>
     requires { at ≤ 65536 }
-    ensures told { Told (λ p. p.end) (λ o p. (o ≡ p.relation) × (at < p.end) × (p.end ≤ length text.now) × (p.end ≤ 65536)) (relation_at text.now at) result }
+    ensures told { Told (λ p. p.end) (Relates text.now at) (relation_at text.now at) result }
 {
     match look(text, at) {
         // =
@@ -37,7 +37,7 @@ fn relation(text: &[u8], at: usize) -> Result<RelationAt, Refusal>
 fn equal(text: &[u8], at: usize) -> Result<RelationAt, Refusal>
     requires place { at ≤ 65536 }
     requires here { byte text.now at ≡ 61 }
-    ensures told { Told (λ p. p.end) (λ o p. (o ≡ p.relation) × (at < p.end) × (p.end ≤ length text.now) × (p.end ≤ 65536)) (relation_at text.now at) result }
+    ensures told { Told (λ p. p.end) (Relates text.now at) (relation_at text.now at) result }
 {
     if at == LONGEST {
         return Err(Refusal::Range(LONGEST));
@@ -51,7 +51,7 @@ fn equal(text: &[u8], at: usize) -> Result<RelationAt, Refusal>
 fn less_or_differ(text: &[u8], at: usize) -> Result<RelationAt, Refusal>
     requires place { at ≤ 65536 }
     requires here { byte text.now at ≡ 60 }
-    ensures told { Told (λ p. p.end) (λ o p. (o ≡ p.relation) × (at < p.end) × (p.end ≤ length text.now) × (p.end ≤ 65536)) (relation_at text.now at) result }
+    ensures told { Told (λ p. p.end) (Relates text.now at) (relation_at text.now at) result }
 {
     if at == LONGEST {
         return Err(Refusal::Range(LONGEST));

@@ -6,7 +6,7 @@ ghost use Rattle.std.specs.Prelude.{◌≡◌, ◌+◌, ◌-◌, ◌*◌, ◌<�
 ghost use Rattle.compose.specs.Agree.{Agree};
 ghost use Rattle.expressions.specs.Made.{Room, NumMade};
 ghost use Rattle.expressions.specs.Places.{PlacesMade, enough, only_place, place_at, second_at};
-ghost use Rattle.expressions.specs.Signs.{operator_of, value_of};
+ghost use Rattle.expressions.specs.Signs.{operator_of};
 ghost use Rattle.grammar.specs.Reading.{Names, fixed_at, named as named_at, num as num_at, operator as operator_at, pair as pair_at};
 ghost use Rattle.scope.specs.Names.{names_in, part};
 ghost use Rattle.tokens.specs.Told.{Told};
@@ -19,10 +19,7 @@ use grammar::Refusal;
 use model::Operator;
 use scope::Grid;
 use scope::scopes::Scope;
-use tokens::{Number, is_letter, literal, look, name, numeral};
-
-// How many bytes a text may have.
-pub(crate) const LONGEST: usize = 65_536;
+use tokens::{LONGEST, is_letter, literal, look, name, numeral, value_of};
 
 // Numbers in a text are below this in size.
 const NUMBER_LIMIT: u32 = 1_000_000;
@@ -50,14 +47,6 @@ fn operator(text: &[u8], at: usize) -> Result<Operator, Refusal>
         return Err(Refusal::Range(LONGEST));
     }
     Ok(operator)
-}
-
-// A number of the text with its sign.
-fn value_of(number: Number) -> i64
-    ensures { result ≡ value_of number }
-{
-    let size = i64::from(number.size);
-    if number.negative { -size } else { size }
 }
 
 // A number as it stands.

@@ -1,5 +1,5 @@
 // Constraints: two sums compared, or a constraint for all of a set. And what other crates read.
-ghost use Rattle.std.specs.Prelude.{◌≡◌, ◌+◌, ◌-◌, ◌*◌, ◌<◌, ◌≤◌, length, is_some, IfSome};
+ghost use Rattle.std.specs.Prelude.{◌≡◌, ◌+◌, ◌-◌, ◌*◌, ◌<◌, ◌≤◌, length, is_some, None, IfSome};
 ghost use Rattle.compose.specs.Agree.{Agree};
 ghost use Rattle.expressions.specs.Made.{Room};
 ghost use Rattle.expressions.specs.Sums.{AllWord, Compares, IsAll, LinMade, RowMade, ready as is_ready, second_byte, sides_at};
@@ -10,13 +10,12 @@ ghost use Rattle.tokens.specs.Told.{Told};
 
 use crate::conditions::{bound, filter, inside};
 use crate::nodes::{all_node, compare_node};
-use crate::numbers::LONGEST;
 use crate::sums::{chain, linear, terms};
 use crate::{ComparisonAt, Node};
 use grammar::Refusal;
 use model::{Comparison, Over};
 use scope::scopes::Scope;
-use tokens::{literal, look, word};
+use tokens::{LONGEST, literal, look, word};
 
 // Brackets stand within each other at most so deep, and so do sums and alls.
 const MOST_BRACKETS: usize = 64;
@@ -208,8 +207,9 @@ fn ready(long: usize, len: usize, waits: usize, count: usize, free: usize, at: u
     3 * (free as u128) + 4 * ((LONGEST - at) as u128) + 60 <= 3 * (len as u128)
 }
 
-// The linear sum at a place; nothing where there is no room for what a text may hold. It may write
-// into all of `pending`.
+// The linear sum at a place; nothing where there is no room for what a text may hold. Otherwise all of
+// `pending` and the words from `free` on are its own: what lies behind the node that it returns is free
+// again, and may hold anything.
 pub fn linear_sum(
     text: &[u8],
     scope: &Scope,
@@ -219,6 +219,8 @@ pub fn linear_sum(
     at: usize,
 ) -> Option<Result<Node, Refusal>>
     ensures ready { is_some result ≡ is_ready (length text.now) (length words.old) (length pending.old) scope.now.count free at }
+    ensures refused { result ≡ None → words.new ≡ words.old }
+    ensures spared { result ≡ None → pending.new ≡ pending.old }
     ensures told { IfSome result (λ q. Told (λ p. p.end) (LinMade text.now (names_in text.now scope.now) at free words.old words.new) (lin_at text.now (length text.now + 1) 8 (names_in text.now scope.now) 64 at) q) }
     ensures kept { Agree 0 free words.old words.new }
 {
@@ -255,6 +257,8 @@ pub fn constraint(
     at: usize,
 ) -> Option<Result<Node, Refusal>>
     ensures ready { is_some result ≡ is_ready (length text.now) (length words.old) (length pending.old) scope.now.count free at }
+    ensures refused { result ≡ None → words.new ≡ words.old }
+    ensures spared { result ≡ None → pending.new ≡ pending.old }
     ensures told { IfSome result (λ q. Told (λ p. p.end) (RowMade text.now (names_in text.now scope.now) at free words.old words.new) (row_at text.now (length text.now + 1) 8 (names_in text.now scope.now) at) q) }
     ensures kept { Agree 0 free words.old words.new }
 {

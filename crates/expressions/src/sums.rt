@@ -18,14 +18,14 @@ ghost use Rattle.tokens.specs.Told.{Told};
 
 use crate::conditions::{bound, filter, inside};
 use crate::nodes::{chain_node, sum_node};
-use crate::numbers::{LONGEST, named, number};
+use crate::numbers::{named, number};
 use crate::terms::{after, after_number};
 use crate::{Chain, Lead, Node, Run, SignAt, TermAt};
 use compose::Name;
 use grammar::Refusal;
 use model::{Over, Sign};
 use scope::scopes::Scope;
-use tokens::{is_letter, literal, look, reserved_word, word};
+use tokens::{LONGEST, is_letter, literal, look, reserved_word, word};
 
 // The sign that a byte is.
 fn sign_byte(c: u16) -> Option<Sign>

@@ -9,13 +9,13 @@ ghost use Rattle.tokens.specs.Told.{Told};
 
 use crate::finding::find_array;
 use crate::nodes::term_node;
-use crate::numbers::{LONGEST, places};
+use crate::numbers::places;
 use crate::{Node, TermAt};
 use compose::Name;
 use grammar::Refusal;
 use model::TermNode;
 use scope::scopes::Scope;
-use tokens::{is_letter, look, name};
+use tokens::{LONGEST, is_letter, look, name};
 
 // What follows a term: a space, which is read, or not.
 pub(crate) fn after(text: &[u8], node: Node) -> Result<TermAt, Refusal>

@@ -1,5 +1,5 @@
 -- Reading parts that several lines share: what lines begin with, numbers in range, and names that are new. Assumes nothing.
-use Rattle.std.specs.Prelude.{◌≡◌, ℕ, min, cond, List, ℤ, pos, neg_ℤ, codes, nat_le}
+use Rattle.std.specs.Prelude.{◌≡◌, ℕ, min, cond, List, codes, nat_le}
 use Rattle.grammar.specs.declared.Refusal.TheVariants.{Name, Range}
 use Rattle.grammar.specs.Grammar.{Word, Numeral}
 use Rattle.grammar.specs.Reading.{Got, ok, bad, then, literal, name, numeral, size, within, Names, free}
@@ -9,9 +9,6 @@ use Rattle.tokens.specs.Sizes.{is_minus}
 -- p tells of n, sizes above 1,000,000 being all the same
 abbrev pub Tells : Numeral → number.Number → Type 0
 Tells n p = (p.size ≡ min 1000001 (size n)) × (p.negative ≡ is_minus n)
-
-abbrev pub signed_size : number.Number → ℤ
-signed_size p = cond p.negative (neg_ℤ (pos p.size)) (pos p.size)
 
 -- a number whose size is at most so much
 unfoldable pub number_at : List ℕ → ℕ → ℕ → Got Numeral

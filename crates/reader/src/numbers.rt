@@ -2,24 +2,16 @@
 ghost use Rattle.std.specs.Prelude.{◌≡◌, ◌≤◌, nat_le};
 ghost use Rattle.grammar.specs.Grammar.{Numeral};
 ghost use Rattle.grammar.specs.Reading.{size, within};
-ghost use Rattle.reader.specs.Numbers.{Tells, signed_size, number_at, size_at};
+ghost use Rattle.reader.specs.Numbers.{Tells, number_at, size_at};
 ghost use Rattle.reader.specs.Lines.{NumberRead, SizeRead};
 ghost use Rattle.tokens.specs.Told.{Told};
 
 use crate::Value;
 use grammar::Refusal;
-use tokens::{Number, literal, numeral};
+use tokens::{Number, literal, numeral, value_of};
 
 // The largest size of a set, and the most rows or columns.
 const LARGEST_SIZE: u32 = 1_000;
-
-// A number with its sign.
-pub(crate) fn value_of(number: Number) -> i64
-    ensures { result ≡ signed_size number }
-{
-    let size = i64::from(number.size);
-    if number.negative { -size } else { size }
-}
 
 // Whether a number is a size, which is `least` or more.
 pub(crate) fn is_size(number: Number, least: u32) -> bool

@@ -50,11 +50,6 @@ fn program(rt: &HostRuntime) -> io::Result<()> {
     }
 }
 
-// Status 1 where the work could not be done, and nothing more: what a user can mend (a file that cannot
-// be read, wrong words) has been said on standard error by then.
 fn main(rt: HostRuntime) -> ExitCode {
-    match program(&rt) {
-        Ok(()) => ExitCode::SUCCESS,
-        Err(_) => ExitCode::FAILURE,
-    }
+    console::status(program(&rt))
 }

@@ -1,13 +1,13 @@
 -- The ends of a number, as the code finds them, and its size. Assumes nothing.
-use Rattle.std.proofs.Common.{◌≡◌, ℕ, ◌+◌, ◌-◌, ◌*◌, ◌<◌, ◌≤◌, min, Bool, true, false, cond, eqb, leb, List, ◌∷◌, map, length, refl, ap, ◌∙◌, ⊎_elim, arith}
+use Rattle.std.proofs.Common.{◌≡◌, ℕ, ◌+◌, ◌-◌, ◌*◌, ◌<◌, ◌≤◌, min, Bool, true, false, cond, eqb, leb, List, ◌∷◌, map, length, pos, neg_ℤ, refl, ap, ◌∙◌, ⊎_elim, arith}
 use Rattle.std.proofs.lemmas.Int.Digits.{number_after_ge}
 use Rattle.std.proofs.lemmas.Bool.{cond-true, cond-false, cases_lt, eq-eqb, ne_eqb, and_parts, and_from, leb-true, le-leb}
 use Rattle.grammar.specs.declared.Refusal.TheVariants.{Syntax, Range}
 use Rattle.grammar.specs.Grammar.{is_digit, is_top, Numeral, nought, whole, minus}
-use Rattle.grammar.specs.Reading.{ok, bad, byte, in_length, digits_at, size, numeral}
+use Rattle.grammar.specs.Reading.{ok, bad, byte, in_length, digits_at, size, value, numeral}
 use Rattle.grammar.proofs.Bytes.{top_other}
 use Rattle.tokens.specs.declared.Number.{Number}
-use Rattle.tokens.specs.Sizes.{is_minus, Counts, signed, capped}
+use Rattle.tokens.specs.Sizes.{is_minus, Counts, value_of, signed, capped}
 
 pub capped_more : (n m c : ℕ) (ds : List ℕ) → m ≡ min (n * 10 + (c - 48)) 1000001 → capped m ds ≡ capped n (c ∷ ds)
 capped_more n m c ds e =
@@ -39,6 +39,12 @@ top_digit c e =
     let p = and_parts (leb 49 c) (leb c 57) e in
     let l = leb-true 49 c p.0 in
     and_from (leb 48 c) (leb c 57) (le-leb 48 c (omega arith)) p.1
+
+-- a number that was told, in range
+pub value_told : (n : Numeral) (p : Number) → p.size ≡ min 1000001 (size n) → p.negative ≡ is_minus n → p.size ≤ 1000000 → value_of p ≡ value n
+value_told nought p e f l = ap (λ b. cond b (neg_ℤ (pos p.size)) (pos p.size)) f ∙ ap pos e
+value_told (whole d ds) p e f l = let z : p.size ≡ size (whole d ds) = omega arith in ap (λ b. cond b (neg_ℤ (pos p.size)) (pos p.size)) f ∙ ap pos z
+value_told (minus d ds) p e f l = let z : p.size ≡ size (minus d ds) = omega arith in ap (λ b. cond b (neg_ℤ (pos p.size)) (pos p.size)) f ∙ ap (λ s. neg_ℤ (pos s)) z
 
 -- NUMERALS by how they begin
 

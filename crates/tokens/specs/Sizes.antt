@@ -1,5 +1,5 @@
 -- Signs and sizes of numbers in a text. Assumes nothing.
-use Rattle.std.specs.Prelude.{◌≡◌, ℕ, ◌-◌, ◌<◌, ◌≤◌, min, Bool, true, false, List, map, length}
+use Rattle.std.specs.Prelude.{◌≡◌, ℕ, ◌-◌, ◌<◌, ◌≤◌, min, Bool, true, false, cond, List, map, length, ℤ, pos, neg_ℤ}
 use Rattle.std.specs.Int.Digits.{number_from_digits_after}
 use Rattle.grammar.specs.Grammar.{Numeral, nought, whole, minus}
 use Rattle.grammar.specs.Reading.{size}
@@ -13,6 +13,10 @@ is_minus (minus d ds) = true
 -- p tells of n, which begins at a place and ends inside the text; sizes above 1,000,000 are all the same
 abbrev pub Counts : List ℕ → ℕ → Numeral → Number → Type 0
 Counts x at n p = (at < p.end) × (p.end ≤ length x) × (p.size ≡ min 1000001 (size n)) × (p.negative ≡ is_minus n) × (at ≤ 65536 → p.end ≤ 65536)
+
+-- a number with its sign, as code has it
+abbrev pub value_of : Number → ℤ
+value_of p = cond p.negative (neg_ℤ (pos p.size)) (pos p.size)
 
 -- a first digit and digits, behind a minus or not
 abbrev pub signed : Bool → ℕ → List ℕ → Numeral

@@ -17,7 +17,7 @@
 ghost use Rattle.std.specs.Prelude.{◌≡◌, ◌+◌, ◌≤◌, true, length};
 ghost use Rattle.grammar.specs.Grammar.{is_digit, is_top, is_letter, is_word};
 ghost use Rattle.grammar.specs.Reading.{byte, in_length, digits_at, literal as literal_at, word as word_at, name as name_at, numeral as numeral_at};
-ghost use Rattle.tokens.specs.Sizes.{Counts, signed};
+ghost use Rattle.tokens.specs.Sizes.{Counts, signed, value_of};
 ghost use Rattle.tokens.specs.Spelling.{Spells};
 ghost use Rattle.tokens.specs.Told.{Told, Part};
 
@@ -52,7 +52,7 @@ pub struct Number {
 }
 
 // How many bytes a text may have.
-const LONGEST: usize = 65_536;
+pub const LONGEST: usize = 65_536;
 
 // How many letters and digits a word may have.
 const LONGEST_WORD: usize = 12;
@@ -245,4 +245,12 @@ pub fn numeral(text: &[u8], at: usize) -> Result<Number, Refusal>
         45 => behind_minus(text, at),
         _ => Err(Refusal::Syntax(at)),
     }
+}
+
+// A number with its sign.
+pub fn value_of(number: Number) -> i64
+    ensures { result ≡ value_of number }
+{
+    let size = i64::from(number.size);
+    if number.negative { -size } else { size }
 }
