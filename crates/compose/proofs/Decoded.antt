@@ -11,7 +11,7 @@ use Rattle.model.specs.declared.Over.{Over}
 use Rattle.model.specs.declared.NumNode.TheVariants.{Entry, Op}
 use Rattle.model.specs.declared.LinNode.TheVariants.{Term, Sum}
 use Rattle.model.specs.Words.{word, num_at, lin_at, over_of}
-use Rattle.compose.specs.Writes.{Appends, Holds, filter_place, filter_before, operator_tag}
+use Rattle.compose.specs.Writes.{Appends, Holds, filter_place, filter_before}
 
 -- what holds once it is written
 pub placed : {P Q : Type 0} (b : Bool) (k w : ℕ) (r : Option ℕ) (ws vs : List ℕ) → Appends b w k r ws vs → IfSome r (λ _. P) → (b ≡ true → 1808 ≤ k → k + 5 ≤ length vs → P → Q) → IfSome r (λ _. Q)
