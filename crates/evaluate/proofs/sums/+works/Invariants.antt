@@ -2,7 +2,7 @@ use Rattle.std.proofs.Common.{◌≡◌, ◌+◌, ◌*◌, ◌≤◌}
 use Rattle.model.specs.Evaluation.{sum_works}
 use Rattle.model.specs.Kept.{LinIn, symbols_in}
 use Rattle.model.specs.Model.{Lin}
-use Rattle.evaluate.proofs.sums.+over_works_works.Given as goal
+use Rattle.evaluate.proofs.sums.+works.Given as goal
 
 -- the parts of a node stand before it
 abbrev pub decreases-works : goal.decreases-works
