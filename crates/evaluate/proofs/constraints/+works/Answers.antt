@@ -1,13 +1,9 @@
-use Rattle.std.proofs.Common.{◌≡◌, ℕ, true, ◌||◌, ◌⊎◌, List, is_some, sym, ap, ◌∙◌, ⊎_elim}
+use Rattle.std.proofs.Common.{◌||◌, is_some, sym, ap, ◌∙◌}
 use Rattle.std.proofs.lemmas.Bool.{or_left}
-use Rattle.model.specs.declared.Comparison.{Comparison}
-use Rattle.model.specs.declared.ConstraintNode.{ConstraintNode}
 use Rattle.model.specs.declared.ConstraintNode.TheVariants.{Compare, All}
 use Rattle.model.specs.Evaluation.{constraint_works}
-use Rattle.model.specs.Kept.{ConstraintIn, symbols_in}
+use Rattle.model.specs.Kept.{symbols_in}
 use Rattle.model.specs.Meaning.{size_of}
-use Rattle.model.specs.Model.{Constraint}
-use Rattle.model.specs.Words.{constraint_at}
 use Rattle.model.proofs.Trees.{constraint_fit}
 use Rattle.evaluate.proofs.Nodes.{constraint_known}
 use Rattle.evaluate.proofs.Working.{over_works, over_empty}

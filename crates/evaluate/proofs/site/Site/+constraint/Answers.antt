@@ -1,4 +1,4 @@
-use Rattle.std.proofs.Common.{◌≡◌, ◌+◌, ◌-◌, true, false, length, take, Some, None, sym, refl, ap, ◌∙◌, arith}
+use Rattle.std.proofs.Common.{◌≡◌, ◌+◌, true, false, length, take, Some, None, sym, refl, ap, ◌∙◌, arith}
 use Rattle.model.specs.Evaluation.{run, instance, where_so, worked_constraint, worked_filter}
 use Rattle.model.specs.Kept.{assignment, depth, symbols_in}
 use Rattle.model.specs.Meaning.{bound}

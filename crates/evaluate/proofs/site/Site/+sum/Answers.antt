@@ -1,11 +1,11 @@
-use Rattle.std.proofs.Common.{◌≡◌, ◌+◌, ◌-◌, length, take, Some, None, sym, refl, ap, ◌∙◌, arith}
+use Rattle.std.proofs.Common.{◌≡◌, ◌+◌, length, take, Some, None, sym, refl, ap, ◌∙◌, arith}
 use Rattle.model.specs.Evaluation.{then, run, sign_of, summand, where_so, worked_filter, worked_sum}
 use Rattle.model.specs.Kept.{assignment, sum_depth, symbols_in}
 use Rattle.model.specs.Meaning.{bound}
 use Rattle.model.specs.Model.{sum_over}
 use Rattle.model.specs.declared.LinNode.TheVariants.{Amount, Term, Sum, Chain, Nothing}
 use Rattle.model.proofs.Trees.{chain_below, lin_fit}
-use Rattle.evaluate.proofs.Nodes.{then_none, then_some, lin_known}
+use Rattle.evaluate.proofs.Nodes.{then_none, lin_known}
 use Rattle.evaluate.proofs.Runs.{run_more, run_stays}
 use Rattle.evaluate.proofs.Working.{idle_sum}
 use Rattle.evaluate.proofs.site.Site.+sum.Goals as goal
