@@ -30,9 +30,10 @@ pub fn condition(words: &[u64], indexes: &[u32], k: usize) -> Option<bool>
             let right = number(words, indexes, j)?;
             Some(holds(r, left, right))
         }
-        CondNode::Both(i, j) => Some(
-            condition(words, indexes, i)? && condition(words, indexes, j)?,
-        ),
+        CondNode::Both(i, j) => {
+            let first = condition(words, indexes, i)?;
+            Some(first && condition(words, indexes, j)?)
+        }
     }
 }
 

@@ -2,100 +2,102 @@
 use model::nodes::{cond_node, constraint_node, lin_node, num_node};
 use model::{
     Comparison, CondNode, ConstraintNode, LinNode, NumNode, Operator, Over, Relation, Sign,
+    TermNode,
 };
 
-// In place of the words of a node where there is none.
-const BAD: [usize; 5] = [0; 5];
-
-// The words of a number's node again, with 0 behind its parts.
-fn number_words(node: NumNode) -> [usize; 5] {
-    match node {
-        NumNode::Fixed(a) => [1, a.cast_unsigned() as usize, 0, 0, 0],
-        NumNode::Index(l) => [2, l, 0, 0, 0],
-        NumNode::Entry(t, i, j) => [3, t, i, j, 0],
-        NumNode::Op(Operator::Plus, i, j) => [4, i, j, 0, 0],
-        NumNode::Op(Operator::Minus, i, j) => [5, i, j, 0, 0],
-        NumNode::Op(Operator::Times, i, j) => [6, i, j, 0, 0],
-        NumNode::Bad => BAD,
-    }
+// What stands at a word, as a number, a condition, a sum and a constraint.
+#[derive(Clone, Copy, Debug, PartialEq)]
+struct Readings {
+    number: Option<NumNode>,
+    condition: Option<CondNode>,
+    sum: Option<LinNode>,
+    constraint: Option<ConstraintNode>,
 }
 
-// The same for a condition.
-fn condition_words(node: CondNode) -> [usize; 5] {
-    match node {
-        CondNode::Relate(Relation::Less, i, j) => [7, i, j, 0, 0],
-        CondNode::Relate(Relation::Equal, i, j) => [8, i, j, 0, 0],
-        CondNode::Relate(Relation::Differ, i, j) => [9, i, j, 0, 0],
-        CondNode::Both(i, j) => [10, i, j, 0, 0],
-        CondNode::Bad => BAD,
-    }
-}
-
-fn over_words(tag: usize, over: Over) -> [usize; 5] {
-    match over.filter {
-        Some(k) => [tag, over.set, k, over.body, 0],
-        None => [tag, over.set, 0, over.body, 0],
-    }
-}
-
-// The same for a sum; a number by itself has the tag 1 whatever it is.
-fn sum_words(node: LinNode) -> [usize; 5] {
-    match node {
-        LinNode::Amount => [1, 0, 0, 0, 0],
-        LinNode::Term(t) => [11, t.number, t.array, t.row, t.column],
-        LinNode::Chain(Sign::Positive, i, j) => [12, i, j, 0, 0],
-        LinNode::Chain(Sign::Negative, i, j) => [13, i, j, 0, 0],
-        LinNode::Sum(over) => over_words(14, over),
-        LinNode::Nothing | LinNode::Bad => BAD,
-    }
-}
-
-// The same for a constraint.
-fn constraint_words(node: ConstraintNode) -> [usize; 5] {
-    match node {
-        ConstraintNode::Compare(Comparison::AtMost, i, j) => [15, i, j, 0, 0],
-        ConstraintNode::Compare(Comparison::AtLeast, i, j) => [16, i, j, 0, 0],
-        ConstraintNode::Compare(Comparison::Exactly, i, j) => [17, i, j, 0, 0],
-        ConstraintNode::All(over) => over_words(18, over),
-        ConstraintNode::Bad => BAD,
-    }
-}
+// What is no node at all.
+const NOTHING: Readings = Readings {
+    number: None,
+    condition: None,
+    sum: None,
+    constraint: None,
+};
 
 // Words that end with a node at word 20.
 fn ending_with(tag: u64, parts: [u64; 4]) -> [u64; 25] {
     let mut words = [0; 25];
     words[20] = tag;
-    for p in 0..4 {
-        words[21 + p] = parts[p];
-    }
+    words[21..].copy_from_slice(&parts);
     words
 }
 
-// The node at word 20, as a number, a condition, a sum and a constraint.
-fn decoded(words: &[u64]) -> [[usize; 5]; 4] {
-    [
-        number_words(num_node(words, 20)),
-        condition_words(cond_node(words, 20)),
-        sum_words(lin_node(words, 20)),
-        constraint_words(constraint_node(words, 20)),
-    ]
+// What stands at word 20.
+fn decoded(words: &[u64]) -> Readings {
+    Readings {
+        number: num_node(words, 20),
+        condition: cond_node(words, 20),
+        sum: lin_node(words, 20),
+        constraint: constraint_node(words, 20),
+    }
 }
 
-// What a node with the parts 16 to 19 is read as. The parts stand before it.
-fn wanted(tag: usize) -> [[usize; 5]; 4] {
-    const AMOUNT: [usize; 5] = [1, 0, 0, 0, 0];
-    let node = match tag {
-        1 | 2 => [tag, 16, 0, 0, 0],
-        3 | 14 | 18 => [tag, 16, 17, 18, 0],
-        11 => [tag, 16, 17, 18, 19],
-        _ => [tag, 16, 17, 0, 0],
-    };
+// What goes through set 16, or through what a node with the parts 16 to 19 says.
+const OVER: Over = Over {
+    set: 16,
+    filter: Some(17),
+    body: 18,
+};
+
+// What a number's node with the parts 16 to 19 is read as. The parts stand before it.
+fn number(tag: u64) -> Option<NumNode> {
     match tag {
-        1..=6 => [node, BAD, AMOUNT, BAD],
-        7..=10 => [BAD, node, BAD, BAD],
-        11..=14 => [BAD, BAD, node, BAD],
-        15..=18 => [BAD, BAD, BAD, node],
-        _ => [BAD; 4],
+        1 => Some(NumNode::Fixed(16)),
+        2 => Some(NumNode::Index(16)),
+        3 => Some(NumNode::Entry(16, 17, 18)),
+        4 => Some(NumNode::Op(Operator::Plus, 16, 17)),
+        5 => Some(NumNode::Op(Operator::Minus, 16, 17)),
+        6 => Some(NumNode::Op(Operator::Times, 16, 17)),
+        _ => None,
+    }
+}
+
+// The same for a condition.
+fn condition(tag: u64) -> Option<CondNode> {
+    match tag {
+        7 => Some(CondNode::Relate(Relation::Less, 16, 17)),
+        8 => Some(CondNode::Relate(Relation::Equal, 16, 17)),
+        9 => Some(CondNode::Relate(Relation::Differ, 16, 17)),
+        10 => Some(CondNode::Both(16, 17)),
+        _ => None,
+    }
+}
+
+// The same for a sum; a number by itself is an amount whatever it is.
+fn sum(tag: u64) -> Option<LinNode> {
+    match tag {
+        1..=6 => Some(LinNode::Amount),
+        11 => {
+            Some(LinNode::Term(TermNode {
+                number: 16,
+                array: 17,
+                row: 18,
+                column: 19,
+            }))
+        }
+        12 => Some(LinNode::Chain(Sign::Positive, 16, 17)),
+        13 => Some(LinNode::Chain(Sign::Negative, 16, 17)),
+        14 => Some(LinNode::Sum(OVER)),
+        _ => None,
+    }
+}
+
+// The same for a constraint.
+fn constraint(tag: u64) -> Option<ConstraintNode> {
+    match tag {
+        15 => Some(ConstraintNode::Compare(Comparison::AtMost, 16, 17)),
+        16 => Some(ConstraintNode::Compare(Comparison::AtLeast, 16, 17)),
+        17 => Some(ConstraintNode::Compare(Comparison::Exactly, 16, 17)),
+        18 => Some(ConstraintNode::All(OVER)),
+        _ => None,
     }
 }
 
@@ -105,8 +107,14 @@ fn wanted(tag: usize) -> [[usize; 5]; 4] {
 fn tags(rt: HostRuntime) {
     for tag in 0..40 {
         let words = ending_with(tag, [16, 17, 18, 19]);
-        assert_eq!(rt; decoded(&words), wanted(tag as usize));
-        assert_eq!(rt; decoded(&words[0..24]), [BAD; 4]);
+        let wanted = Readings {
+            number: number(tag),
+            condition: condition(tag),
+            sum: sum(tag),
+            constraint: constraint(tag),
+        };
+        assert_eq!(rt; decoded(&words), wanted);
+        assert_eq!(rt; decoded(&words[0..24]), NOTHING);
     }
 }
 
@@ -120,33 +128,30 @@ fn node_parts(tag: u64) -> [bool; 4] {
     }
 }
 
-// Whether there is a node of the sort that its tag says, with 19 as each of its parts but part p.
-fn is_node(tag: u64, p: usize, part: u64) -> bool {
-    let mut parts = [19; 4];
-    if p < 4 {
-        parts[p] = part;
-    }
-    let [number, condition, sum, constraint] = decoded(&ending_with(tag, parts));
+// Whether there is a node of the sort that its tag says.
+fn is_node(tag: u64, parts: [u64; 4]) -> bool {
+    let found = decoded(&ending_with(tag, parts));
     match tag {
-        1..=6 => number != BAD,
-        7..=10 => condition != BAD,
-        11..=14 => sum != BAD,
-        _ => constraint != BAD,
+        1..=6 => found.number.is_some(),
+        7..=10 => found.condition.is_some(),
+        11..=14 => found.sum.is_some(),
+        _ => found.constraint.is_some(),
     }
 }
 
-// A part that is a node has to stand before the node; one that is not may be any word.
+// A part that is a node has to stand before the node; one that is not may be any word. All other
+// parts are 19.
 #[test]
 fn parts(rt: HostRuntime) {
     for tag in 1..19 {
-        for p in 0..4 {
-            let is_part = node_parts(tag)[p];
-            let found = [
-                is_node(tag, p, 19),
-                is_node(tag, p, 20),
-                is_node(tag, p, u64::MAX),
-            ];
-            assert_eq!(rt; found, [true, !is_part, !is_part]);
+        for (p, is_part) in node_parts(tag).into_iter().enumerate() {
+            let mut parts = [19; 4];
+            assert!(rt; p < 4);
+            assert!(rt; is_node(tag, parts));
+            for behind in [20, u64::MAX] {
+                parts[p] = behind;
+                assert_eq!(rt; is_node(tag, parts), !is_part);
+            }
         }
     }
 }

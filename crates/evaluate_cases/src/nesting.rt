@@ -1,131 +1,126 @@
 // Sums and alls within each other: eight deep, and no deeper. Nothing keeps them busy for ever where
 // there is nothing to do: eight sets of 1,000 within each other would be gone through 10^24 times.
-use crate::answers::*;
 use crate::builder::*;
+use evaluate::sums::linear_sum;
+use model::{Comparison, Sign};
+use std::alloc::{AllocError, Global};
 
 // Sets of 1,000, one, two and no elements.
-fn stage() -> Builder {
-    let mut m = Builder::new();
+fn stage(alloc: Global) -> Result<Builder, AllocError> {
+    let mut m = Builder::new(alloc)?;
     m.set(0, 1000);
     m.set(1, 1);
     m.set(2, 2);
     m.set(3, 0);
-    m
+    Ok(m)
 }
 
 // So many sums over a set within each other, around a body.
-fn sums_around(m: &mut Builder, n: usize, set: usize, body: usize) -> usize {
+fn sums_around(m: &mut Builder, n: usize, set: usize, body: usize) -> Result<usize, AllocError> {
     let mut k = body;
     for _ in 0..n {
-        k = m.sum(set, ALWAYS, k);
+        k = m.sum(set, ALWAYS, k)?;
     }
-    k
+    Ok(k)
 }
 
 // The same for alls.
-fn alls_around(m: &mut Builder, n: usize, set: usize, body: usize) -> usize {
+fn alls_around(m: &mut Builder, n: usize, set: usize, body: usize) -> Result<usize, AllocError> {
     let mut k = body;
     for _ in 0..n {
-        k = m.all(set, ALWAYS, k);
+        k = m.all(set, ALWAYS, k)?;
     }
-    k
-}
-
-fn nested_sum(start: Builder, n: usize, set: usize, body: usize) -> i64 {
-    let mut m = start;
-    let k = sums_around(&mut m, n, set, body);
-    sum_at(&m, &[], k)
+    Ok(k)
 }
 
 // Sums over sets of 1,000 around an empty one are 0 at once; eight sums are worked out, and nine not.
 #[test]
-fn nested_sums(rt: HostRuntime) {
-    let mut m = stage();
-    let last = m.index(7);
-    let empty = m.sum(3, ALWAYS, ONE);
-    let twice = m.chain(TAKEN, empty, empty);
+fn nested_sums(rt: HostRuntime) -> Result<(), AllocError> {
+    let mut m = stage(rt.alloc())?;
+    let last = m.index(7)?;
+    let empty = m.sum(3, ALWAYS, ONE)?;
+    let twice = m.chain(Sign::Negative, empty, empty)?;
     // One, and beside it what comes to 0 at once.
-    let six = sums_around(&mut m, 6, 0, empty);
-    let beside = m.chain(ADDED, ONE, six);
+    let six = sums_around(&mut m, 6, 0, empty)?;
+    let beside = m.chain(Sign::Positive, ONE, six)?;
     // How many sums, over which set, around what, and what they come to.
     let cases = [
-        (7, 0, empty, 0),
-        (8, 0, empty, 0),
-        (8, 0, twice, 0),
-        (1, 0, beside, 1000),
-        (8, 1, ONE, 1),
-        (8, 2, ONE, 256),
-        (8, 2, last, 128),
-        (9, 1, ONE, NONE),
-        (9, 2, ONE, NONE),
-        (9, 0, ONE, NONE),
+        (7, 0, empty, Some(0)),
+        (8, 0, empty, Some(0)),
+        (8, 0, twice, Some(0)),
+        (1, 0, beside, Some(1000)),
+        (8, 1, ONE, Some(1)),
+        (8, 2, ONE, Some(256)),
+        (8, 2, last, Some(128)),
+        (9, 1, ONE, None),
+        (9, 2, ONE, None),
+        (9, 0, ONE, None),
     ];
-    let mut tally = Tally::new();
     for (n, set, body, want) in cases {
-        tally.compare(nested_sum(m, n, set, body), want);
+        let k = sums_around(&mut m, n, set, body)?;
+        assert_eq!(rt; linear_sum(&m.words, &[], k), want);
     }
-    assert_eq!(rt; tally.wrong, None);
-}
-
-fn nested_all(start: Builder, n: usize, set: usize, body: usize) -> i64 {
-    let mut m = start;
-    let k = alls_around(&mut m, n, set, body);
-    constraint_at(&m, &[], k)
+    Ok(())
 }
 
 // Alls over sets of 1,000 around an empty one are met at once; eight alls are looked at, and nine not.
 #[test]
-fn nested_alls(rt: HostRuntime) {
-    let mut m = stage();
-    let last = m.index(7);
-    let fits = m.compare(AT_MOST, ZERO, ONE);
-    let fails = m.compare(AT_MOST, ONE, ZERO);
-    let at_last = m.compare(AT_MOST, last, ZERO);
-    let empty = m.all(3, ALWAYS, fails);
+fn nested_alls(rt: HostRuntime) -> Result<(), AllocError> {
+    let mut m = stage(rt.alloc())?;
+    let last = m.index(7)?;
+    let fits = m.compare(Comparison::AtMost, ZERO, ONE)?;
+    let fails = m.compare(Comparison::AtMost, ONE, ZERO)?;
+    let at_last = m.compare(Comparison::AtMost, last, ZERO)?;
+    let empty = m.all(3, ALWAYS, fails)?;
     // How many alls, over which set, around what, and whether they are met.
     let cases = [
-        (7, 0, empty, YES),
-        (8, 0, empty, YES),
-        (8, 0, fails, NO),
-        (8, 1, fits, YES),
-        (8, 1, fails, NO),
-        (8, 1, at_last, YES),
-        (8, 2, at_last, NO),
-        (9, 1, fits, NONE),
-        (9, 1, fails, NONE),
-        (9, 0, fits, NONE),
+        (7, 0, empty, Some(true)),
+        (8, 0, empty, Some(true)),
+        (8, 0, fails, Some(false)),
+        (8, 1, fits, Some(true)),
+        (8, 1, fails, Some(false)),
+        (8, 1, at_last, Some(true)),
+        (8, 2, at_last, Some(false)),
+        (9, 1, fits, None),
+        (9, 1, fails, None),
+        (9, 0, fits, None),
     ];
-    let mut tally = Tally::new();
     for (n, set, body, want) in cases {
-        tally.compare(nested_all(m, n, set, body), want);
+        let k = alls_around(&mut m, n, set, body)?;
+        assert_eq!(rt; m.met(&[], k), want);
     }
-    assert_eq!(rt; tally.wrong, None);
+    Ok(())
 }
 
 // So many alls around two sides of so many sums.
-fn mixed(alls: usize, left: usize, right: usize) -> i64 {
-    let mut m = stage();
-    let l = sums_around(&mut m, left, 1, ONE);
-    let r = sums_around(&mut m, right, 1, ONE);
-    let body = m.compare(EXACTLY, l, r);
-    nested_all(m, alls, 1, body)
+fn mixed(
+    alloc: Global,
+    alls: usize,
+    left: usize,
+    right: usize,
+) -> Result<Option<bool>, AllocError> {
+    let mut m = stage(alloc)?;
+    let l = sums_around(&mut m, left, 1, ONE)?;
+    let r = sums_around(&mut m, right, 1, ONE)?;
+    let body = m.compare(Comparison::Exactly, l, r)?;
+    let k = alls_around(&mut m, alls, 1, body)?;
+    Ok(m.met(&[], k))
 }
 
 // Sums within alls: eight of both together.
 #[test]
-fn sums_in_alls(rt: HostRuntime) {
-    const CASES: [(usize, usize, usize, i64); 7] = [
-        (0, 8, 8, YES),
-        (4, 4, 4, YES),
-        (7, 1, 0, YES),
-        (8, 0, 0, YES),
-        (8, 1, 0, NONE),
-        (8, 0, 1, NONE),
-        (4, 4, 5, NONE),
+fn sums_in_alls(rt: HostRuntime) -> Result<(), AllocError> {
+    const CASES: [(usize, usize, usize, Option<bool>); 7] = [
+        (0, 8, 8, Some(true)),
+        (4, 4, 4, Some(true)),
+        (7, 1, 0, Some(true)),
+        (8, 0, 0, Some(true)),
+        (8, 1, 0, None),
+        (8, 0, 1, None),
+        (4, 4, 5, None),
     ];
-    let mut tally = Tally::new();
     for (alls, left, right, want) in CASES {
-        tally.compare(mixed(alls, left, right), want);
+        assert_eq!(rt; mixed(rt.alloc(), alls, left, right)?, want);
     }
-    assert_eq!(rt; tally.wrong, None);
+    Ok(())
 }

@@ -23,18 +23,18 @@ returns-in_ok-right-in-Relate t c =
     cond_relate _ _ _ c.in-Relate.r c.in-Relate.i c.in-Relate.j (ap Some (sym c.in-Relate.is) ∙ c.in_ok-r.ensures)
     (λ a b p q. then_some _ c.in_ok-left-in-Relate.left (c.in_ok-left-in-Relate.ensures a p) (then_some _ c.in_ok-right-in-Relate.right (c.in_ok-right-in-Relate.ensures b q) (ap Some e)))
 
+pub returns-in_err-first-in-Both : goal.returns-in_err-first-in-Both
+returns-in_err-first-in-Both t c = cond_both _ _ _ c.in-Both.i c.in-Both.j (ap Some (sym c.in-Both.is) ∙ c.in_ok-r.ensures)
+    (λ d e p q. c.from_residual-in_err-first-in-Both.ensures ∙ then_none _ (c.in_err-first-in-Both.ensures d p))
+
+pub returns-in_ok-condition-in-Both : goal.returns-in_ok-condition-in-Both
+returns-in_ok-condition-in-Both t c = cond_both _ _ _ c.in-Both.i c.in-Both.j (ap Some (sym c.in-Both.is) ∙ c.in_ok-r.ensures)
+    (λ d e p q. then_some _ c.in_ok-first-in-Both.first (c.in_ok-first-in-Both.ensures d p) (rw c.if-first.true (c.in_ok-condition-in-Both.ensures e q)))
+
 pub returns-in_err-condition-in-Both : goal.returns-in_err-condition-in-Both
 returns-in_err-condition-in-Both t c = cond_both _ _ _ c.in-Both.i c.in-Both.j (ap Some (sym c.in-Both.is) ∙ c.in_ok-r.ensures)
-    (λ d e p q. c.from_residual-in_err-condition-in-Both.ensures ∙ then_none _ (c.in_err-condition-in-Both.ensures d p))
+    (λ d e p q. then_some _ c.in_ok-first-in-Both.first (c.in_ok-first-in-Both.ensures d p) (rw c.if-first.true (c.from_residual-in_err-condition-in-Both.ensures ∙ c.in_err-condition-in-Both.ensures e q)))
 
-pub returns-in_ok-condition-in-Both-2 : goal.returns-in_ok-condition-in-Both-2
-returns-in_ok-condition-in-Both-2 t c = cond_both _ _ _ c.in-Both.i c.in-Both.j (ap Some (sym c.in-Both.is) ∙ c.in_ok-r.ensures)
-    (λ d e p q. then_some _ c.in_ok-condition-in-Both.field-0 (c.in_ok-condition-in-Both.ensures d p) (rw c.if-branch.true (c.in_ok-condition-in-Both-2.ensures e q)))
-
-pub returns-in_err-condition-in-Both-2 : goal.returns-in_err-condition-in-Both-2
-returns-in_err-condition-in-Both-2 t c = cond_both _ _ _ c.in-Both.i c.in-Both.j (ap Some (sym c.in-Both.is) ∙ c.in_ok-r.ensures)
-    (λ d e p q. then_some _ c.in_ok-condition-in-Both.field-0 (c.in_ok-condition-in-Both.ensures d p) (rw c.if-branch.true (c.from_residual-in_err-condition-in-Both-2.ensures ∙ c.in_err-condition-in-Both-2.ensures e q)))
-
-pub returns-else-branch : goal.returns-else-branch
-returns-else-branch t c = cond_both _ _ _ c.in-Both.i c.in-Both.j (ap Some (sym c.in-Both.is) ∙ c.in_ok-r.ensures)
-    (λ d e p q. then_some _ c.in_ok-condition-in-Both.field-0 (c.in_ok-condition-in-Both.ensures d p) (rw c.if-branch.false refl))
+pub returns-else-first : goal.returns-else-first
+returns-else-first t c = cond_both _ _ _ c.in-Both.i c.in-Both.j (ap Some (sym c.in-Both.is) ∙ c.in_ok-r.ensures)
+    (λ d e p q. then_some _ c.in_ok-first-in-Both.first (c.in_ok-first-in-Both.ensures d p) (rw c.if-first.false refl))
