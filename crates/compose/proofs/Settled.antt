@@ -1,18 +1,17 @@
 -- Words that agree; and that the words which a node takes settle it. Assumes nothing.
-use Rattle.std.proofs.Common.{◌≡◌, ℕ, ◌+◌, ◌≤◌, List, ℤ, Some, refl, ◌∙◌, arith}
+use Rattle.std.proofs.Common.{◌≡◌, ℕ, ◌+◌, ◌<◌, ◌≤◌, List, Some, refl, ◌∙◌, arith}
 use Rattle.std.proofs.lemmas.Bool.Decides.{nat_tests}
-use Rattle.model.specs.declared.Operator.{Operator}
-use Rattle.model.specs.declared.Relation.{Relation}
-use Rattle.model.specs.declared.Comparison.{Comparison}
-use Rattle.model.specs.declared.Sign.{Sign}
-use Rattle.model.specs.declared.TermNode.{TermNode}
-use Rattle.model.specs.declared.Over.{Over}
+use Rattle.model.specs.declared.NumNode.{NumNode}
 use Rattle.model.specs.declared.NumNode.TheVariants.{Fixed, Index, Entry, Op}
+use Rattle.model.specs.declared.CondNode.{CondNode}
 use Rattle.model.specs.declared.CondNode.TheVariants.{Relate, Both}
-use Rattle.model.specs.declared.LinNode.TheVariants.{Term, Chain, Sum}
+use Rattle.model.specs.declared.LinNode.{LinNode}
+use Rattle.model.specs.declared.LinNode.TheVariants.{Amount, Term, Sum, Chain, Nothing}
+use Rattle.model.specs.declared.ConstraintNode.{ConstraintNode}
 use Rattle.model.specs.declared.ConstraintNode.TheVariants.{Compare, All}
 use Rattle.model.specs.Words.{num_at, cond_at, lin_at, constraint_at}
 use Rattle.compose.specs.Agree.{Agree, Settled}
+use Rattle.compose.specs.Writes.{num_size, cond_size, lin_size, constraint_size}
 
 -- AGREEMENT
 
@@ -42,55 +41,46 @@ settled_more m n i j ws P l r p us t = p us (agree_part m n l r t)
 -- NODES. Of the five words that are looked at, those that a node takes settle it
 
 module _ (ws : List ℕ) (k n : ℕ) (l : 1808 ≤ k) where
-  pub fixed_settled : (a : ℤ) → k + 2 ≤ n → num_at ws k ≡ Some (Fixed a) → Settled 1808 n ws (λ vs. num_at vs k ≡ Some (Fixed a))
-  fixed_settled a h e vs s =
+  pub num_settled : (node : NumNode) → k + num_size node ≤ n → num_at ws k ≡ Some node → Settled 1808 n ws (λ vs. num_at vs k ≡ Some node)
+  num_settled (Fixed a) h e vs s =
       let z = s.long in
       let t = s.same k l (omega arith) in
       let x = s.same (k + 1) (omega arith) (omega arith) in
       grind (arith, nat_tests)
-
-  pub index_settled : (i : ℕ) → k + 2 ≤ n → num_at ws k ≡ Some (Index i) → Settled 1808 n ws (λ vs. num_at vs k ≡ Some (Index i))
-  index_settled i h e vs s =
+  num_settled (Index i) h e vs s =
       let z = s.long in
       let t = s.same k l (omega arith) in
       let x = s.same (k + 1) (omega arith) (omega arith) in
       grind (arith, nat_tests)
-
-  pub entry_settled : (a i j : ℕ) → k + 4 ≤ n → num_at ws k ≡ Some (Entry a i j) → Settled 1808 n ws (λ vs. num_at vs k ≡ Some (Entry a i j))
-  entry_settled a i j h e vs s =
+  num_settled (Entry a i j) h e vs s =
       let z = s.long in
       let t = s.same k l (omega arith) in
       let x = s.same (k + 1) (omega arith) (omega arith) in
       let y = s.same (k + 2) (omega arith) (omega arith) in
       let w = s.same (k + 3) (omega arith) (omega arith) in
       grind (arith, nat_tests)
-
-  pub op_settled : (o : Operator) (i j : ℕ) → k + 3 ≤ n → num_at ws k ≡ Some (Op o i j) → Settled 1808 n ws (λ vs. num_at vs k ≡ Some (Op o i j))
-  op_settled o i j h e vs s =
+  num_settled (Op o i j) h e vs s =
       let z = s.long in
       let t = s.same k l (omega arith) in
       let x = s.same (k + 1) (omega arith) (omega arith) in
       let y = s.same (k + 2) (omega arith) (omega arith) in
       grind (arith, nat_tests)
 
-  pub relate_settled : (o : Relation) (i j : ℕ) → k + 3 ≤ n → cond_at ws k ≡ Some (Relate o i j) → Settled 1808 n ws (λ vs. cond_at vs k ≡ Some (Relate o i j))
-  relate_settled o i j h e vs s =
+  pub cond_settled : (node : CondNode) → k + cond_size node ≤ n → cond_at ws k ≡ Some node → Settled 1808 n ws (λ vs. cond_at vs k ≡ Some node)
+  cond_settled node h e vs s =
+      let three : cond_size node ≡ 3 = by node in
       let z = s.long in
       let t = s.same k l (omega arith) in
       let x = s.same (k + 1) (omega arith) (omega arith) in
       let y = s.same (k + 2) (omega arith) (omega arith) in
       cc
+    where
+      by : (node : CondNode) → cond_size node ≡ 3
+      by (Relate o i j) = refl
+      by (Both i j) = refl
 
-  pub both_settled : (i j : ℕ) → k + 3 ≤ n → cond_at ws k ≡ Some (Both i j) → Settled 1808 n ws (λ vs. cond_at vs k ≡ Some (Both i j))
-  both_settled i j h e vs s =
-      let z = s.long in
-      let t = s.same k l (omega arith) in
-      let x = s.same (k + 1) (omega arith) (omega arith) in
-      let y = s.same (k + 2) (omega arith) (omega arith) in
-      cc
-
-  pub term_settled : (o : TermNode) → k + 5 ≤ n → lin_at ws k ≡ Some (Term o) → Settled 1808 n ws (λ vs. lin_at vs k ≡ Some (Term o))
-  term_settled o h e vs s =
+  pub lin_settled : (node : LinNode) → k + lin_size node ≤ n → 0 < lin_size node → lin_at ws k ≡ Some node → Settled 1808 n ws (λ vs. lin_at vs k ≡ Some node)
+  lin_settled (Term o) h f e vs s =
       let z = s.long in
       let t = s.same k l (omega arith) in
       let x = s.same (k + 1) (omega arith) (omega arith) in
@@ -98,34 +88,30 @@ module _ (ws : List ℕ) (k n : ℕ) (l : 1808 ≤ k) where
       let w = s.same (k + 3) (omega arith) (omega arith) in
       let v = s.same (k + 4) (omega arith) (omega arith) in
       cc
-
-  pub chain_settled : (g : Sign) (i j : ℕ) → k + 3 ≤ n → lin_at ws k ≡ Some (Chain g i j) → Settled 1808 n ws (λ vs. lin_at vs k ≡ Some (Chain g i j))
-  chain_settled g i j h e vs s =
+  lin_settled (Chain g i j) h f e vs s =
       let z = s.long in
       let t = s.same k l (omega arith) in
       let x = s.same (k + 1) (omega arith) (omega arith) in
       let y = s.same (k + 2) (omega arith) (omega arith) in
       grind (arith, nat_tests)
-
-  pub sum_settled : (o : Over) → k + 4 ≤ n → lin_at ws k ≡ Some (Sum o) → Settled 1808 n ws (λ vs. lin_at vs k ≡ Some (Sum o))
-  sum_settled o h e vs s =
+  lin_settled (Sum o) h f e vs s =
       let z = s.long in
       let t = s.same k l (omega arith) in
       let x = s.same (k + 1) (omega arith) (omega arith) in
       let y = s.same (k + 2) (omega arith) (omega arith) in
       let w = s.same (k + 3) (omega arith) (omega arith) in
       grind (arith, nat_tests)
+  lin_settled Amount h f e vs s = absurd (omega arith)
+  lin_settled Nothing h f e vs s = absurd (omega arith)
 
-  pub compare_settled : (o : Comparison) (i j : ℕ) → k + 3 ≤ n → constraint_at ws k ≡ Some (Compare o i j) → Settled 1808 n ws (λ vs. constraint_at vs k ≡ Some (Compare o i j))
-  compare_settled o i j h e vs s =
+  pub constraint_settled : (node : ConstraintNode) → k + constraint_size node ≤ n → constraint_at ws k ≡ Some node → Settled 1808 n ws (λ vs. constraint_at vs k ≡ Some node)
+  constraint_settled (Compare o i j) h e vs s =
       let z = s.long in
       let t = s.same k l (omega arith) in
       let x = s.same (k + 1) (omega arith) (omega arith) in
       let y = s.same (k + 2) (omega arith) (omega arith) in
       grind (arith, nat_tests)
-
-  pub all_settled : (o : Over) → k + 4 ≤ n → constraint_at ws k ≡ Some (All o) → Settled 1808 n ws (λ vs. constraint_at vs k ≡ Some (All o))
-  all_settled o h e vs s =
+  constraint_settled (All o) h e vs s =
       let z = s.long in
       let t = s.same k l (omega arith) in
       let x = s.same (k + 1) (omega arith) (omega arith) in
