@@ -7,10 +7,10 @@ use Rattle.integer.specs.Fields.{four_bytes, meant_at}
 
 alone : (bs : List ℕ) (at : ℕ) → four_bytes bs at ≡ four_bytes (take 4 (drop at bs)) 0
 alone bs at =
-    let a : 0 < 4 = omega arith in
-    let b : 1 < 4 = omega arith in
-    let c : 2 < 4 = omega arith in
-    let d : 3 < 4 = omega arith in
+    let first : 0 < 4 = omega arith in
+    let second : 1 < 4 = omega arith in
+    let third : 2 < 4 = omega arith in
+    let fourth : 3 < 4 = omega arith in
     simp (get_or-take, get_or-drop, add-zero)
 
 module _ {A : Type 0} (meaning : ℕ → A) where

@@ -5,7 +5,8 @@
 #[cfg(test)]
 mod tests {
     use integer::checked::{difference, floor_quotient, in_range, product, sum};
-    use integer::fields::{NoRoom, read, write};
+    use integer::fields::{Field, NoRoom, read, write};
+    use std::process::Abort;
 
     const LIMIT: i64 = 1 << 62;
 
@@ -136,6 +137,14 @@ mod tests {
     // A place, a number, whether it is written, and the bytes after.
     type Write<T> = (usize, T, Result<(), NoRoom>, [u8; 6]);
 
+    fn writes<T: Field>(rt: &impl Abort, cases: &[Write<T>]) {
+        for (at, v, want, after) in cases {
+            let mut bytes = [7; 6];
+            assert_eq!(rt; write(&mut bytes, *at, *v), *want);
+            assert_eq!(rt; bytes, *after);
+        }
+    }
+
     #[test]
     fn unsigned_fields_written(rt: HostRuntime) {
         const CASES: [Write<u32>; 7] = [
@@ -147,11 +156,7 @@ mod tests {
             (usize::MAX - 3, 1, Err(NoRoom), [7; 6]),
             (usize::MAX, 1, Err(NoRoom), [7; 6]),
         ];
-        for (at, v, want, after) in CASES {
-            let mut bytes = [7; 6];
-            assert_eq!(rt; write(&mut bytes, at, v), want);
-            assert_eq!(rt; bytes, after);
-        }
+        writes(&rt, &CASES);
     }
 
     #[test]
@@ -165,10 +170,6 @@ mod tests {
             (usize::MAX - 3, -1, Err(NoRoom), [7; 6]),
             (usize::MAX, -1, Err(NoRoom), [7; 6]),
         ];
-        for (at, v, want, after) in CASES {
-            let mut bytes = [7; 6];
-            assert_eq!(rt; write(&mut bytes, at, v), want);
-            assert_eq!(rt; bytes, after);
-        }
+        writes(&rt, &CASES);
     }
 }
