@@ -18,8 +18,10 @@ pub trait Field: Copy {
         ensures { field_at result 0 ≡ Some self };
 
     // Four bytes mean at their place what they mean alone.
-    ghost alone: { (bs : List ℕ) (at : ℕ) → at + 4 ≤ length bs → field_at bs at ≡ field_at (take 4 (drop at bs)) 0 };
+    ghost alone: { (bs : List ℕ) (at : ℕ) → at + 4 ≤ length bs
+        → field_at bs at ≡ field_at (take 4 (drop at bs)) 0 };
 
+    // Nothing stands where the bytes end before.
     ghost ends: { (bs : List ℕ) (at : ℕ) → length bs < at + 4 → field_at bs at ≡ None };
 }
 
