@@ -1,4 +1,5 @@
 pub mod Checked
+pub mod FieldLaws
 pub mod Fields
 pub mod Floors
 pub mod Sums

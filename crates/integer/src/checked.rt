@@ -13,12 +13,10 @@ const LIMIT: u64 = 1 << 62;
 pub fn in_range(a: i64) -> Option<i64>
     ensures value { result ≡ checked a }
 {
-    if a.unsigned_abs() < LIMIT {
-        Some(a)
-    } else {
-        None
-    }
+    (a.unsigned_abs() < LIMIT).then_some(a)
 }
+
+// Three functions, since one that is handed the operation would be no plainer.
 
 // The exact sum, or none where it is 2^62 or more in size.
 pub fn sum(a: i64, b: i64) -> Option<i64>
@@ -47,5 +45,5 @@ pub fn floor_quotient(a: i64, d: i64) -> Option<i64>
     ensures value { result ≡ floor_of a d }
     ensures between { IfSome result (λ q. ((q *ℤ d) ≤ℤ a) × (a <ℤ ((q +ℤ pos 1) *ℤ d))) }
 {
-    if d > 0 { Some(a.div_euclid(d)) } else { None }
+    (d > 0).then(|| a.div_euclid(d))
 }

@@ -5,7 +5,8 @@
 #[cfg(test)]
 mod tests {
     use integer::checked::{difference, floor_quotient, in_range, product, sum};
-    use integer::fields::{read_i32, read_u32, write_i32, write_u32};
+    use integer::fields::{Field, NoRoom, read, write};
+    use std::process::Abort;
 
     const LIMIT: i64 = 1 << 62;
 
@@ -126,48 +127,49 @@ mod tests {
             (usize::MAX, None, None),
         ];
         for (at, unsigned, signed) in CASES {
-            assert_eq!(rt; read_u32(&BYTES, at), unsigned);
-            assert_eq!(rt; read_i32(&BYTES, at), signed);
+            assert_eq!(rt; read::<u32>(&BYTES, at), unsigned);
+            assert_eq!(rt; read::<i32>(&BYTES, at), signed);
         }
-        assert_eq!(rt; read_u32(&[], 0), None);
-        assert_eq!(rt; read_i32(&[1, 2, 3], 0), None);
+        assert_eq!(rt; read::<u32>(&[], 0), None);
+        assert_eq!(rt; read::<i32>(&[1, 2, 3], 0), None);
+    }
+
+    // A place, a number, whether it is written, and the bytes after.
+    type Write<T> = (usize, T, Result<(), NoRoom>, [u8; 6]);
+
+    fn writes<T: Field>(rt: &impl Abort, cases: &[Write<T>]) {
+        for (at, v, want, after) in cases {
+            let mut bytes = [7; 6];
+            assert_eq!(rt; write(&mut bytes, *at, *v), *want);
+            assert_eq!(rt; bytes, *after);
+        }
     }
 
     #[test]
     fn unsigned_fields_written(rt: HostRuntime) {
-        // A place, a number, whether it is written, and the bytes after.
-        const CASES: [(usize, u32, bool, [u8; 6]); 7] = [
-            (0, 0x0403_0201, true, [1, 2, 3, 4, 7, 7]),
-            (1, 0, true, [7, 0, 0, 0, 0, 7]),
-            (2, u32::MAX, true, [7, 7, 0xff, 0xff, 0xff, 0xff]),
-            (3, 1, false, [7; 6]),
-            (6, 1, false, [7; 6]),
-            (usize::MAX - 3, 1, false, [7; 6]),
-            (usize::MAX, 1, false, [7; 6]),
+        const CASES: [Write<u32>; 7] = [
+            (0, 0x0403_0201, Ok(()), [1, 2, 3, 4, 7, 7]),
+            (1, 0, Ok(()), [7, 0, 0, 0, 0, 7]),
+            (2, u32::MAX, Ok(()), [7, 7, 0xff, 0xff, 0xff, 0xff]),
+            (3, 1, Err(NoRoom), [7; 6]),
+            (6, 1, Err(NoRoom), [7; 6]),
+            (usize::MAX - 3, 1, Err(NoRoom), [7; 6]),
+            (usize::MAX, 1, Err(NoRoom), [7; 6]),
         ];
-        for (at, v, want, after) in CASES {
-            let mut bytes = [7; 6];
-            assert_eq!(rt; write_u32(&mut bytes, at, v), want);
-            assert_eq!(rt; bytes, after);
-        }
+        writes(&rt, &CASES);
     }
 
     #[test]
     fn signed_fields_written(rt: HostRuntime) {
-        // A place, a number, whether it is written, and the bytes after.
-        const CASES: [(usize, i32, bool, [u8; 6]); 7] = [
-            (0, i32::MAX, true, [0xff, 0xff, 0xff, 0x7f, 7, 7]),
-            (1, i32::MIN, true, [7, 0, 0, 0, 0x80, 7]),
-            (2, -2, true, [7, 7, 0xfe, 0xff, 0xff, 0xff]),
-            (3, -1, false, [7; 6]),
-            (6, -1, false, [7; 6]),
-            (usize::MAX - 3, -1, false, [7; 6]),
-            (usize::MAX, -1, false, [7; 6]),
+        const CASES: [Write<i32>; 7] = [
+            (0, i32::MAX, Ok(()), [0xff, 0xff, 0xff, 0x7f, 7, 7]),
+            (1, i32::MIN, Ok(()), [7, 0, 0, 0, 0x80, 7]),
+            (2, -2, Ok(()), [7, 7, 0xfe, 0xff, 0xff, 0xff]),
+            (3, -1, Err(NoRoom), [7; 6]),
+            (6, -1, Err(NoRoom), [7; 6]),
+            (usize::MAX - 3, -1, Err(NoRoom), [7; 6]),
+            (usize::MAX, -1, Err(NoRoom), [7; 6]),
         ];
-        for (at, v, want, after) in CASES {
-            let mut bytes = [7; 6];
-            assert_eq!(rt; write_i32(&mut bytes, at, v), want);
-            assert_eq!(rt; bytes, after);
-        }
+        writes(&rt, &CASES);
     }
 }

@@ -13,11 +13,11 @@ It is not there yet: no model can be read.
 ";
 
 // A text written anew is never longer than the text.
-fn print(rt: &HostRuntime, text: &Vec<u8>) -> io::Result<()> {
+fn print(rt: &HostRuntime, text: &[u8]) -> io::Result<()> {
     let mut printed = vec![in rt.alloc(); 0u8; text.len()]?;
     match solver::rewrite(text, &mut printed) {
-        Ok(_) => rt.stdout().write_all(&printed),
-        Err(_) => eprintln!(rt; "rewrite: not there yet: no model can be read"),
+        Ok(len) => rt.stdout().write_all(&printed[..len]),
+        Err(missing) => eprintln!(rt; "rewrite: {missing}"),
     }
 }
 
@@ -26,16 +26,12 @@ fn run(rt: &HostRuntime, model: Option<&str>) -> io::Result<()> {
     print(rt, &text)
 }
 
+// Each program matches its own words: a function for all three would be no plainer.
 fn program(rt: &HostRuntime) -> io::Result<()> {
-    let mut args = env::args(rt)?;
     // the first word is the program's own name
-    let _ = args.next();
-    match args.next() {
-        None => run(rt, None),
-        Some(word) => match word.as_str() {
-            "--help" => print!(rt; "{USAGE}"),
-            name => run(rt, Some(name)),
-        },
+    match env::args(rt)?.nth(1).as_deref() {
+        Some("--help") => print!(rt; "{USAGE}"),
+        model => run(rt, model),
     }
 }
 

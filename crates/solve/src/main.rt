@@ -1,9 +1,7 @@
 // Solves a model and prints what was found out. The work is the library's: this
-// program reads the text and lends the bytes for the line.
+// program reads the text and prints the outcome.
 #![tactic(auto)]
 
-use solver::Outcome;
-use std::io::Write;
 use std::process::ExitCode;
 use std::{env, io};
 
@@ -21,32 +19,18 @@ No model can be read yet, so `too long` is what it says of every text. SHEET, th
 file for a certificate, is not written yet.
 ";
 
-// More than the longest line has.
-const LINE: usize = 64;
-
-fn print(rt: &HostRuntime, outcome: Outcome) -> io::Result<()> {
-    let mut printed = [0u8; LINE];
-    match solver::tell(outcome, &mut printed) {
-        Some(len) => rt.stdout().write_all(&printed[..len]),
-        None => Err(io::Error::other("the line has no room")),
-    }
-}
-
 fn run(rt: &HostRuntime, model: Option<&str>) -> io::Result<()> {
     let text = console::read(rt, "solve", model)?;
-    print(rt, solver::solve(&text))
+    let outcome = solver::solve(&text);
+    println!(rt; "{outcome}")
 }
 
+// Each program matches its own words: a function for all three would be no plainer.
 fn program(rt: &HostRuntime) -> io::Result<()> {
-    let mut args = env::args(rt)?;
     // the first word is the program's own name
-    let _ = args.next();
-    match args.next() {
-        None => run(rt, None),
-        Some(word) => match word.as_str() {
-            "--help" => print!(rt; "{USAGE}"),
-            name => run(rt, Some(name)),
-        },
+    match env::args(rt)?.nth(1).as_deref() {
+        Some("--help") => print!(rt; "{USAGE}"),
+        model => run(rt, model),
     }
 }
 

@@ -1,22 +1,19 @@
 -- How an outcome is told: one line. Assumes nothing.
-use Rattle.std.specs.Prelude.{ℕ, Bool, cond, List, [], ◌∷◌, ◌++◌, length, drop, ℤ, codes, nat_le}
+use Rattle.std.specs.Prelude.{ℕ, Bool, cond, List, [], ◌∷◌, ◌++◌, length, drop, codes, nat_le}
 use Rattle.std.specs.Fmt.{signed_decimal}
 use Rattle.solver.specs.declared.Outcome.{Outcome}
 use Rattle.solver.specs.declared.Outcome.TheVariants.{Best, Infeasible, TooLong}
 
--- A text and a newline.
-abbrev pub line : List ℕ → List ℕ
-line text = text ++ (10 ∷ [])
+-- The text that tells an outcome: of the best, its cost in decimal digits, with a minus
+-- where it is below 0.
+abbrev pub text_of : Outcome → List ℕ
+text_of (Best cost) = codes "best " ++ signed_decimal cost
+text_of Infeasible = codes "none"
+text_of TooLong = codes "too long"
 
--- `best` and the cost in decimal digits, with a minus where it is below 0.
-abbrev pub best_line : ℤ → List ℕ
-best_line cost = codes "best " ++ line (signed_decimal cost)
-
--- The line that tells an outcome.
+-- The line that tells it: the text and a newline.
 abbrev pub line_of : Outcome → List ℕ
-line_of (Best cost) = best_line cost
-line_of Infeasible = line (codes "none")
-line_of TooLong = line (codes "too long")
+line_of outcome = text_of outcome ++ (10 ∷ [])
 
 -- Whether the line fits lent bytes.
 abbrev pub fits : Outcome → List ℕ → Bool

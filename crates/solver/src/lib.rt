@@ -4,9 +4,13 @@
 #![tactic(auto)]
 
 ghost use Rattle.solver.specs.Lines.{fits, line_of, told};
+ghost use Rattle.solver.specs.NotYet.{words_of};
 ghost use Rattle.std.specs.Prelude.{◌≡◌, length, if◌then◌else◌, Some, None, Err};
 
 mod lines;
+
+use std::error::Error;
+use std::fmt;
 
 // What was found out about a model.
 #[derive(Clone, Copy, Debug, PartialEq)]
@@ -35,6 +39,19 @@ pub enum NotYet {
     Texts,
 }
 
+impl fmt::Display for NotYet {
+    ghost output = { λ missing. Some (words_of missing) };
+
+    fn fmt<W: fmt::Write>(&self, f: &mut fmt::Formatter<W>) -> fmt::Result {
+        f.write_str(match self {
+            NotYet::Certificates => "not there yet: no certificate can be checked",
+            NotYet::Texts => "not there yet: no model can be read",
+        })
+    }
+}
+
+impl Error for NotYet {}
+
 // Whether a certificate shows what it tells of the model in the text. As long as no certificate can
 // be read none is accepted.
 pub fn check(_text: &[u8], _sheet: &[u8]) -> Result<bool, NotYet>
@@ -58,9 +75,8 @@ pub fn tell(outcome: Outcome, printed: &mut [u8]) -> Option<usize>
     ensures value { result ≡ (if fits outcome printed.old then Some (length (line_of outcome)) else None) }
     ensures bytes { printed.new ≡ told outcome printed.old }
 {
-    let mut room = [0u8; lines::LONGEST];
-    let start = lines::lay(outcome, &mut room);
-    let line = &room[start..];
+    let line = lines::line(outcome);
+    let line = line.as_str().as_bytes();
     if printed.len() < line.len() {
         return None;
     }

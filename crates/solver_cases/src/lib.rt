@@ -3,8 +3,9 @@
 
 #[cfg(test)]
 mod tests {
-    use solver::{Outcome, solve, tell};
+    use solver::{NotYet, Outcome, solve, tell};
     use std::process::Abort;
+    use std::test::Fail;
 
     // A byte that stands in no line, to see what is left as it was.
     const FREE: u8 = b'#';
@@ -79,5 +80,17 @@ mod tests {
         );
         tells(&rt, Outcome::Infeasible, Some(5), b"none\n###");
         tells(&rt, Outcome::TooLong, Some(9), b"too long\n#");
+    }
+
+    #[test]
+    fn shown(rt: HostRuntime) -> Result<(), Fail> {
+        let best = format!(in rt.alloc(); "{}", Outcome::Best { cost: -120 })?;
+        assert_eq!(rt; best.as_str(), "best -120");
+        let missing = format!(in rt.alloc(); "{}, {}", NotYet::Certificates, NotYet::Texts)?;
+        assert_eq!(rt;
+            missing.as_str(),
+            "not there yet: no certificate can be checked, not there yet: no model can be read",
+        );
+        Ok(())
     }
 }

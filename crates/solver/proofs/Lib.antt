@@ -1,2 +1,0 @@
-mod Laid
-mod Told
