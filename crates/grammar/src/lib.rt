@@ -7,7 +7,7 @@
 #![tactic(auto)]
 
 // Why a text is refused, with the place that is told.
-#[derive(Clone, Copy)]
+#[derive(Clone, Copy, Debug, PartialEq)]
 pub enum Refusal {
     // no text goes on so
     Syntax(usize),
