@@ -86,7 +86,7 @@ def point_1():
                 yield path, f"{name} gives a number for none"
             if path.startswith("crates/evaluate_cases") and result.strip() in ("-> i64", "-> [i64; 8]", "-> [i64; N]", "-> [i64; 2]", "-> [usize; 2]", "-> [usize; 5]", "-> [[usize; 5]; 4]"):
                 yield path, f"{name} gives a number for none, yes, no or a kind"
-        for name in re.findall(r"const (PLUS|MINUS|TIMES|LESS|EQUAL|DIFFER|ADDED|TAKEN|AT_MOST|AT_LEAST|EXACTLY|NONE|FULL|NO|YES|ALWAYS|BAD)\b", plain):
+        for name in re.findall(r"const (PLUS|MINUS|TIMES|LESS|EQUAL|DIFFER|ADDED|TAKEN|AT_MOST|AT_LEAST|EXACTLY|NONE|FULL|NO|YES|ALWAYS|BAD): \[?(?:u64|i64|usize)\b", plain):
             yield path, f"{name} is a number for a kind, an answer or none"
         for _ in re.findall(r"else \{\s*return None;\s*\}", plain):
             yield path, "None is handed on by hand"
@@ -114,9 +114,26 @@ def point_2():
 
 def point_3():
     for path, text in sources():
-        for line in code(text).split("\n"):
-            if re.match(r"\s*('\w+: )?(while\b|loop \{)", line) or re.match(r"\s*for \w+ in [^{]*\.\.", line):
+        lines = code(text).split("\n")
+        for i, line in enumerate(lines):
+            if re.match(r"\s*('\w+: )?(while\b|loop \{)", line):
                 yield path, line.strip()
+            if re.match(r"\s*for \w+ in [^.{]*\{", line) and re.search(r"\b\w+ \+= 1;", block(lines[i:])):
+                yield path, line.strip()
+            counted = re.match(r"\s*for (\w+) in [^{]*\.\.", line)
+            if counted and re.search(r"\[[^\]]*\b%s\b[^\]]*\]" % counted.group(1), block(lines[i:])):
+                yield path, line.strip()
+
+
+def block(lines):
+    """The lines of a block that begins in the first of these, that line left out."""
+    depth, inside = 0, []
+    for line in lines:
+        depth += line.count("{") - line.count("}")
+        if depth <= 0:
+            break
+        inside.append(line)
+    return "\n".join(inside[1:])
 
 
 def point_4():
@@ -126,9 +143,10 @@ def point_4():
             if re.match(r"\s*match [\w().\[\]]+ \{", body) and body.rstrip().endswith("}") and body.count("match") == 1 and arms and all(re.match(r"(Some\()?[\w:]+(\(\))?\)?,$|-?\d+,$|None,$", a) for a in arms):
                 yield path, f"{name} turns one into another"
         if path.endswith("lines.rt"):
-            for name, *_ in functions(text):
-                yield path, f"{name} prints by hand"
-        for name in re.findall(r"fn (value_of|amount|verdict|index_below|\w+_words|told)\(", code(text)):
+            for name, params, *_ in functions(text):
+                if "&mut [u8" in params:
+                    yield path, f"{name} prints by hand"
+        for name in re.findall(r"fn (value_of|amount|verdict|index_below|(?:number|condition|over|sum|constraint|line)_words|told)\(", code(text)):
             yield path, f"{name} turns one into another"
 
 
