@@ -1,5 +1,5 @@
 -- Words that agree; and that the words which a node takes settle it. Assumes nothing.
-use Rattle.std.proofs.Common.{◌≡◌, ℕ, ◌+◌, ◌≤◌, List, ℤ, refl, ◌∙◌, arith}
+use Rattle.std.proofs.Common.{◌≡◌, ℕ, ◌+◌, ◌≤◌, List, ℤ, Some, refl, ◌∙◌, arith}
 use Rattle.std.proofs.lemmas.Bool.Decides.{nat_tests}
 use Rattle.model.specs.declared.Operator.{Operator}
 use Rattle.model.specs.declared.Relation.{Relation}
@@ -42,21 +42,21 @@ settled_more m n i j ws P l r p us t = p us (agree_part m n l r t)
 -- NODES. Of the five words that are looked at, those that a node takes settle it
 
 module _ (ws : List ℕ) (k n : ℕ) (l : 1808 ≤ k) where
-  pub fixed_settled : (a : ℤ) → k + 2 ≤ n → num_at ws k ≡ Fixed a → Settled 1808 n ws (λ vs. num_at vs k ≡ Fixed a)
+  pub fixed_settled : (a : ℤ) → k + 2 ≤ n → num_at ws k ≡ Some (Fixed a) → Settled 1808 n ws (λ vs. num_at vs k ≡ Some (Fixed a))
   fixed_settled a h e vs s =
       let z = s.long in
       let t = s.same k l (omega arith) in
       let x = s.same (k + 1) (omega arith) (omega arith) in
       grind (arith, nat_tests)
 
-  pub index_settled : (i : ℕ) → k + 2 ≤ n → num_at ws k ≡ Index i → Settled 1808 n ws (λ vs. num_at vs k ≡ Index i)
+  pub index_settled : (i : ℕ) → k + 2 ≤ n → num_at ws k ≡ Some (Index i) → Settled 1808 n ws (λ vs. num_at vs k ≡ Some (Index i))
   index_settled i h e vs s =
       let z = s.long in
       let t = s.same k l (omega arith) in
       let x = s.same (k + 1) (omega arith) (omega arith) in
       grind (arith, nat_tests)
 
-  pub entry_settled : (a i j : ℕ) → k + 4 ≤ n → num_at ws k ≡ Entry a i j → Settled 1808 n ws (λ vs. num_at vs k ≡ Entry a i j)
+  pub entry_settled : (a i j : ℕ) → k + 4 ≤ n → num_at ws k ≡ Some (Entry a i j) → Settled 1808 n ws (λ vs. num_at vs k ≡ Some (Entry a i j))
   entry_settled a i j h e vs s =
       let z = s.long in
       let t = s.same k l (omega arith) in
@@ -65,7 +65,7 @@ module _ (ws : List ℕ) (k n : ℕ) (l : 1808 ≤ k) where
       let w = s.same (k + 3) (omega arith) (omega arith) in
       grind (arith, nat_tests)
 
-  pub op_settled : (o : Operator) (i j : ℕ) → k + 3 ≤ n → num_at ws k ≡ Op o i j → Settled 1808 n ws (λ vs. num_at vs k ≡ Op o i j)
+  pub op_settled : (o : Operator) (i j : ℕ) → k + 3 ≤ n → num_at ws k ≡ Some (Op o i j) → Settled 1808 n ws (λ vs. num_at vs k ≡ Some (Op o i j))
   op_settled o i j h e vs s =
       let z = s.long in
       let t = s.same k l (omega arith) in
@@ -73,7 +73,7 @@ module _ (ws : List ℕ) (k n : ℕ) (l : 1808 ≤ k) where
       let y = s.same (k + 2) (omega arith) (omega arith) in
       grind (arith, nat_tests)
 
-  pub relate_settled : (o : Relation) (i j : ℕ) → k + 3 ≤ n → cond_at ws k ≡ Relate o i j → Settled 1808 n ws (λ vs. cond_at vs k ≡ Relate o i j)
+  pub relate_settled : (o : Relation) (i j : ℕ) → k + 3 ≤ n → cond_at ws k ≡ Some (Relate o i j) → Settled 1808 n ws (λ vs. cond_at vs k ≡ Some (Relate o i j))
   relate_settled o i j h e vs s =
       let z = s.long in
       let t = s.same k l (omega arith) in
@@ -81,7 +81,7 @@ module _ (ws : List ℕ) (k n : ℕ) (l : 1808 ≤ k) where
       let y = s.same (k + 2) (omega arith) (omega arith) in
       cc
 
-  pub both_settled : (i j : ℕ) → k + 3 ≤ n → cond_at ws k ≡ Both i j → Settled 1808 n ws (λ vs. cond_at vs k ≡ Both i j)
+  pub both_settled : (i j : ℕ) → k + 3 ≤ n → cond_at ws k ≡ Some (Both i j) → Settled 1808 n ws (λ vs. cond_at vs k ≡ Some (Both i j))
   both_settled i j h e vs s =
       let z = s.long in
       let t = s.same k l (omega arith) in
@@ -89,7 +89,7 @@ module _ (ws : List ℕ) (k n : ℕ) (l : 1808 ≤ k) where
       let y = s.same (k + 2) (omega arith) (omega arith) in
       cc
 
-  pub term_settled : (o : TermNode) → k + 5 ≤ n → lin_at ws k ≡ Term o → Settled 1808 n ws (λ vs. lin_at vs k ≡ Term o)
+  pub term_settled : (o : TermNode) → k + 5 ≤ n → lin_at ws k ≡ Some (Term o) → Settled 1808 n ws (λ vs. lin_at vs k ≡ Some (Term o))
   term_settled o h e vs s =
       let z = s.long in
       let t = s.same k l (omega arith) in
@@ -99,7 +99,7 @@ module _ (ws : List ℕ) (k n : ℕ) (l : 1808 ≤ k) where
       let v = s.same (k + 4) (omega arith) (omega arith) in
       cc
 
-  pub chain_settled : (g : Sign) (i j : ℕ) → k + 3 ≤ n → lin_at ws k ≡ Chain g i j → Settled 1808 n ws (λ vs. lin_at vs k ≡ Chain g i j)
+  pub chain_settled : (g : Sign) (i j : ℕ) → k + 3 ≤ n → lin_at ws k ≡ Some (Chain g i j) → Settled 1808 n ws (λ vs. lin_at vs k ≡ Some (Chain g i j))
   chain_settled g i j h e vs s =
       let z = s.long in
       let t = s.same k l (omega arith) in
@@ -107,7 +107,7 @@ module _ (ws : List ℕ) (k n : ℕ) (l : 1808 ≤ k) where
       let y = s.same (k + 2) (omega arith) (omega arith) in
       grind (arith, nat_tests)
 
-  pub sum_settled : (o : Over) → k + 4 ≤ n → lin_at ws k ≡ Sum o → Settled 1808 n ws (λ vs. lin_at vs k ≡ Sum o)
+  pub sum_settled : (o : Over) → k + 4 ≤ n → lin_at ws k ≡ Some (Sum o) → Settled 1808 n ws (λ vs. lin_at vs k ≡ Some (Sum o))
   sum_settled o h e vs s =
       let z = s.long in
       let t = s.same k l (omega arith) in
@@ -116,7 +116,7 @@ module _ (ws : List ℕ) (k n : ℕ) (l : 1808 ≤ k) where
       let w = s.same (k + 3) (omega arith) (omega arith) in
       grind (arith, nat_tests)
 
-  pub compare_settled : (o : Comparison) (i j : ℕ) → k + 3 ≤ n → constraint_at ws k ≡ Compare o i j → Settled 1808 n ws (λ vs. constraint_at vs k ≡ Compare o i j)
+  pub compare_settled : (o : Comparison) (i j : ℕ) → k + 3 ≤ n → constraint_at ws k ≡ Some (Compare o i j) → Settled 1808 n ws (λ vs. constraint_at vs k ≡ Some (Compare o i j))
   compare_settled o i j h e vs s =
       let z = s.long in
       let t = s.same k l (omega arith) in
@@ -124,7 +124,7 @@ module _ (ws : List ℕ) (k n : ℕ) (l : 1808 ≤ k) where
       let y = s.same (k + 2) (omega arith) (omega arith) in
       grind (arith, nat_tests)
 
-  pub all_settled : (o : Over) → k + 4 ≤ n → constraint_at ws k ≡ All o → Settled 1808 n ws (λ vs. constraint_at vs k ≡ All o)
+  pub all_settled : (o : Over) → k + 4 ≤ n → constraint_at ws k ≡ Some (All o) → Settled 1808 n ws (λ vs. constraint_at vs k ≡ Some (All o))
   all_settled o h e vs s =
       let z = s.long in
       let t = s.same k l (omega arith) in

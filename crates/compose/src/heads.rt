@@ -1,69 +1,63 @@
 // Heads of a model's sets, tables, arrays, constraints and lines.
 //
-// Head k is the last of its sort: writing it makes their count k + 1. A head says true, or changes
-// nothing and says false, where there may be no head k or the words have no room for all heads.
-ghost use Rattle.std.specs.Prelude.{◌≡◌, ℕ, ◌+◌, ◌*◌, ◌<◌, ◌≤◌, true, false, ◌&&◌, length, nat_le, nat_lt};
-ghost use Rattle.compose.specs.Heads.{Others, line_sort, line_number};
+// Head k is the last of its sort: writing it makes their count k + 1. Where there may be no head k, or
+// the words have no room for all heads, nothing changes, and which it was is told.
+ghost use Rattle.std.specs.Prelude.{◌≡◌, ℕ, ◌+◌, ◌*◌, ◌<◌, ◌≤◌, [], ◌∷◌, length, OnOk};
+ghost use Rattle.compose.specs.Heads.{Puts, line_sort, line_number};
 ghost use Rattle.compose.specs.Writes.{Holds};
 ghost use Rattle.model.specs.Words.{word, limited, set_count, set_size, table_count, table_rows, table_columns, table_start, array_count, array_rows, array_columns, array_lower, array_upper, array_first, constraint_count, constraint_place, objective_place, line_count, line_at};
 
-use crate::{ArrayHead, FIRST_NODE, Name, TableHead};
+use crate::{ArrayHead, FIRST_NODE, Name, TableHead, Unwritten};
 use model::Line;
-
-// There are at most so many sets, and tables, and arrays; constraints; lines.
-const MOST_SYMBOLS: usize = 16;
-
-const MOST_CONSTRAINTS: usize = 256;
-
-const MOST_LINES: usize = 305;
+use model::symbols::{MOST_CONSTRAINTS, MOST_LINES, MOST_SYMBOLS};
 
 // Writes a head at a place, and how many there are now into the word `count`.
-fn put_head(words: &mut [u64], place: usize, head: &[u64], count: usize, many: usize) -> bool
+fn put_head(
+    words: &mut [u64],
+    place: usize,
+    head: &[u64],
+    count: usize,
+    many: usize,
+) -> Result<(), Unwritten>
     requires order { count < place }
     requires within { place + length head.now ≤ 1808 }
-    ensures done { result ≡ nat_le 1808 (length words.old) }
-    ensures refused { result ≡ false → words.new ≡ words.old }
-    ensures count { result ≡ true → word words.new count ≡ many }
-    ensures here { result ≡ true → Holds words.new place head.now }
-    ensures others { Others count place (place + length head.now) words.old words.new }
+    ensures put { Puts 0 1 count place (place + length head.now) result words.old words.new }
+    ensures count { OnOk result (word words.new count ≡ many) }
+    ensures here { OnOk result (Holds words.new place head.now) }
 {
     if words.len() < FIRST_NODE {
-        return false;
+        return Err(Unwritten::NoRoom);
     }
     words[count] = many as u64;
     words[place..place + head.len()].copy_from_slice(head);
-    true
+    Ok(())
 }
 
 // A set: its size. A size above 1000 counts for nothing when it is read.
-pub fn put_set(words: &mut [u64], k: usize, size: usize, name: Name) -> bool
-    ensures done { result ≡ (nat_lt k 16 && nat_le 1808 (length words.old)) }
-    ensures refused { result ≡ false → words.new ≡ words.old }
-    ensures count { result ≡ true → set_count words.new ≡ k + 1 }
-    ensures size { result ≡ true → set_size words.new k ≡ limited 1000 size }
-    ensures name { result ≡ true → (word words.new (9 + 4 * k) ≡ name.begin) × (word words.new (10 + 4 * k) ≡ name.end) }
-    ensures others { Others 0 (8 + 4 * k) (11 + 4 * k) words.old words.new }
+pub fn put_set(words: &mut [u64], k: usize, size: usize, name: Name) -> Result<(), Unwritten>
+    ensures put { Puts k 16 0 (8 + 4 * k) (11 + 4 * k) result words.old words.new }
+    ensures count { OnOk result (set_count words.new ≡ k + 1) }
+    ensures size { OnOk result (set_size words.new k ≡ limited 1000 size) }
+    ensures name { OnOk result ((word words.new (9 + 4 * k) ≡ name.begin) × (word words.new (10 + 4 * k) ≡ name.end)) }
 {
     if k >= MOST_SYMBOLS {
-        return false;
+        return Err(Unwritten::TooMany);
     }
     let head = [size as u64, name.begin as u64, name.end as u64];
     put_head(words, 8 + 4 * k, &head, 0, k + 1)
 }
 
 // A table: its size, and where its numbers begin.
-pub fn put_table(words: &mut [u64], k: usize, table: TableHead, name: Name) -> bool
-    ensures done { result ≡ (nat_lt k 16 && nat_le 1808 (length words.old)) }
-    ensures refused { result ≡ false → words.new ≡ words.old }
-    ensures count { result ≡ true → table_count words.new ≡ k + 1 }
-    ensures rows { result ≡ true → table_rows words.new k ≡ limited 1000 table.rows }
-    ensures columns { result ≡ true → table_columns words.new k ≡ limited 1000 table.columns }
-    ensures start { result ≡ true → table_start words.new k ≡ table.start }
-    ensures name { result ≡ true → (word words.new (75 + 8 * k) ≡ name.begin) × (word words.new (76 + 8 * k) ≡ name.end) }
-    ensures others { Others 1 (72 + 8 * k) (77 + 8 * k) words.old words.new }
+pub fn put_table(words: &mut [u64], k: usize, table: TableHead, name: Name) -> Result<(), Unwritten>
+    ensures put { Puts k 16 1 (72 + 8 * k) (77 + 8 * k) result words.old words.new }
+    ensures count { OnOk result (table_count words.new ≡ k + 1) }
+    ensures rows { OnOk result (table_rows words.new k ≡ limited 1000 table.rows) }
+    ensures columns { OnOk result (table_columns words.new k ≡ limited 1000 table.columns) }
+    ensures start { OnOk result (table_start words.new k ≡ table.start) }
+    ensures name { OnOk result ((word words.new (75 + 8 * k) ≡ name.begin) × (word words.new (76 + 8 * k) ≡ name.end)) }
 {
     if k >= MOST_SYMBOLS {
-        return false;
+        return Err(Unwritten::TooMany);
     }
     let head = [
         table.rows as u64,
@@ -76,20 +70,18 @@ pub fn put_table(words: &mut [u64], k: usize, table: TableHead, name: Name) -> b
 }
 
 // A variable array: its size, the bounds of its variables, and the number of the first.
-pub fn put_array(words: &mut [u64], k: usize, array: ArrayHead, name: Name) -> bool
-    ensures done { result ≡ (nat_lt k 16 && nat_le 1808 (length words.old)) }
-    ensures refused { result ≡ false → words.new ≡ words.old }
-    ensures count { result ≡ true → array_count words.new ≡ k + 1 }
-    ensures rows { result ≡ true → array_rows words.new k ≡ limited 1000 array.rows }
-    ensures columns { result ≡ true → array_columns words.new k ≡ limited 1000 array.columns }
-    ensures lower { result ≡ true → array_lower words.new k ≡ array.lower }
-    ensures upper { result ≡ true → array_upper words.new k ≡ array.upper }
-    ensures first { result ≡ true → array_first words.new k ≡ limited 16000000 array.first }
-    ensures name { result ≡ true → (word words.new (205 + 8 * k) ≡ name.begin) × (word words.new (206 + 8 * k) ≡ name.end) }
-    ensures others { Others 2 (200 + 8 * k) (207 + 8 * k) words.old words.new }
+pub fn put_array(words: &mut [u64], k: usize, array: ArrayHead, name: Name) -> Result<(), Unwritten>
+    ensures put { Puts k 16 2 (200 + 8 * k) (207 + 8 * k) result words.old words.new }
+    ensures count { OnOk result (array_count words.new ≡ k + 1) }
+    ensures rows { OnOk result (array_rows words.new k ≡ limited 1000 array.rows) }
+    ensures columns { OnOk result (array_columns words.new k ≡ limited 1000 array.columns) }
+    ensures lower { OnOk result (array_lower words.new k ≡ array.lower) }
+    ensures upper { OnOk result (array_upper words.new k ≡ array.upper) }
+    ensures first { OnOk result (array_first words.new k ≡ limited 16000000 array.first) }
+    ensures name { OnOk result ((word words.new (205 + 8 * k) ≡ name.begin) × (word words.new (206 + 8 * k) ≡ name.end)) }
 {
     if k >= MOST_SYMBOLS {
-        return false;
+        return Err(Unwritten::TooMany);
     }
     let head = [
         array.rows as u64,
@@ -104,67 +96,59 @@ pub fn put_array(words: &mut [u64], k: usize, array: ArrayHead, name: Name) -> b
 }
 
 // A constraint: its node.
-pub fn put_constraint(words: &mut [u64], k: usize, node: usize) -> bool
-    ensures done { result ≡ (nat_lt k 256 && nat_le 1808 (length words.old)) }
-    ensures refused { result ≡ false → words.new ≡ words.old }
-    ensures count { result ≡ true → constraint_count words.new ≡ k + 1 }
-    ensures node { result ≡ true → constraint_place words.new k ≡ node }
-    ensures others { Others 3 (328 + k) (329 + k) words.old words.new }
+pub fn put_constraint(words: &mut [u64], k: usize, node: usize) -> Result<(), Unwritten>
+    ensures put { Puts k 256 3 (328 + k) (329 + k) result words.old words.new }
+    ensures count { OnOk result (constraint_count words.new ≡ k + 1) }
+    ensures node { OnOk result (constraint_place words.new k ≡ node) }
 {
     if k >= MOST_CONSTRAINTS {
-        return false;
+        return Err(Unwritten::TooMany);
     }
     put_head(words, 328 + k, &[node as u64], 3, k + 1)
 }
 
 // The objective: its node. There is one, and nothing counts it.
-pub fn put_objective(words: &mut [u64], node: usize) -> bool
-    ensures done { result ≡ (nat_le 1808 (length words.old)) }
-    ensures refused { result ≡ false → words.new ≡ words.old }
-    ensures node { result ≡ true → objective_place words.new ≡ node }
-    ensures others { Others 4 4 5 words.old words.new }
+pub fn put_objective(words: &mut [u64], node: usize) -> Result<(), Unwritten>
+    ensures put { Puts 0 1 4 4 5 result words.old words.new }
+    ensures node { OnOk result (objective_place words.new ≡ node) }
 {
     if words.len() < FIRST_NODE {
-        return false;
+        return Err(Unwritten::NoRoom);
     }
     words[4] = node as u64;
-    true
+    Ok(())
 }
 
-fn sort_word(line: Line) -> u64
-    ensures { result ≡ line_sort line }
+// The sort of a line and its number, 0 where there is none.
+fn line_words(line: Option<Line>) -> [u64; 2]
+    ensures { result ≡ line_sort line ∷ (line_number line ∷ []) }
 {
     match line {
-        Line::Set(_) => 1,
-        Line::Table(_) => 2,
-        Line::Variables(_) => 3,
-        Line::Objective => 4,
-        Line::Constraint(_) => 5,
-        Line::Bad => 0,
+        None => [0, 0],
+        Some(Line::Set(n)) => [1, n as u64],
+        Some(Line::Table(n)) => [2, n as u64],
+        Some(Line::Variables(n)) => [3, n as u64],
+        Some(Line::Objective) => [4, 0],
+        Some(Line::Constraint(n)) => [5, n as u64],
     }
 }
 
-fn number_word(line: Line) -> u64
-    ensures { result ≡ line_number line }
-{
-    match line {
-        Line::Set(n) | Line::Table(n) | Line::Variables(n) | Line::Constraint(n) => n as u64,
-        Line::Objective | Line::Bad => 0,
-    }
-}
-
-// A line of the text by its sort and number, so that it can be told again, and where it begins.
-pub fn put_line(words: &mut [u64], k: usize, line: Line, place: usize) -> bool
-    ensures done { result ≡ (nat_lt k 305 && nat_le 1808 (length words.old)) }
-    ensures refused { result ≡ false → words.new ≡ words.old }
-    ensures count { result ≡ true → line_count words.new ≡ k + 1 }
-    ensures here { result ≡ true → line_at words.new k ≡ line }
-    ensures place { result ≡ true → word words.new (586 + 4 * k) ≡ place }
-    ensures others { Others 5 (584 + 4 * k) (587 + 4 * k) words.old words.new }
+// A line of the text by its sort and number, so that it can be told again, and where it begins; none
+// is read as none.
+pub fn put_line(
+    words: &mut [u64],
+    k: usize,
+    line: Option<Line>,
+    place: usize,
+) -> Result<(), Unwritten>
+    ensures put { Puts k 305 5 (584 + 4 * k) (587 + 4 * k) result words.old words.new }
+    ensures count { OnOk result (line_count words.new ≡ k + 1) }
+    ensures here { OnOk result (line_at words.new k ≡ line) }
+    ensures place { OnOk result (word words.new (586 + 4 * k) ≡ place) }
 {
     if k >= MOST_LINES {
-        return false;
+        return Err(Unwritten::TooMany);
     }
-    let head = [sort_word(line), number_word(line), place as u64];
-    put_head(words, 584 + 4 * k, &head, 5, k + 1)
+    let [sort, number] = line_words(line);
+    put_head(words, 584 + 4 * k, &[sort, number, place as u64], 5, k + 1)
 }

@@ -9,14 +9,22 @@
 pub const FIRST_NODE: usize = 1808;
 
 // Where a name stands in the text: from `begin` up to `end`.
-#[derive(Clone, Copy)]
+#[derive(Clone, Copy, Debug, PartialEq)]
 pub struct Name {
     pub begin: usize,
     pub end: usize,
 }
 
+// Why a head is not written: there may be no more of its sort, or the words have no room for all
+// heads.
+#[derive(Clone, Copy, Debug, PartialEq)]
+pub enum Unwritten {
+    TooMany,
+    NoRoom,
+}
+
 // A table's size, and the place of its first number.
-#[derive(Clone, Copy)]
+#[derive(Clone, Copy, Debug, PartialEq)]
 pub struct TableHead {
     pub rows: usize,
     pub columns: usize,
@@ -24,7 +32,7 @@ pub struct TableHead {
 }
 
 // An array's size, the bounds of its variables, and the number of the first of them.
-#[derive(Clone, Copy)]
+#[derive(Clone, Copy, Debug, PartialEq)]
 pub struct ArrayHead {
     pub rows: usize,
     pub columns: usize,

@@ -4,28 +4,38 @@
 // A place is refused if it lies among the heads, if fewer than five words begin there (reading
 // looks at five), or if a part of the node does not stand before it. What is refused changes
 // nothing. A node or a number changes no word but its own: those before and behind it stay. The
-// next begins behind it, and each function returns where that is.
-ghost use Rattle.std.specs.Prelude.{◌≡◌, ◌+◌, ◌≤◌, ◌&&◌, [], ◌∷◌, length, if◌then◌else◌, Some, None, OnSome, nat_lt};
+// next begins behind it, and that is what is returned.
+ghost use Rattle.std.specs.Prelude.{◌≡◌, ℕ, ◌+◌, ◌≤◌, ◌&&◌, Bool, true, List, [], ◌∷◌, length, if◌then◌else◌, Some, None, Option, OnSome, nat_lt};
 ghost use Rattle.compose.specs.Agree.{Agree, Behind};
-ghost use Rattle.compose.specs.Writes.{Holds, room, filter_place, filter_before, operator_tag, relation_tag, chain_tag, comparison_tag};
+ghost use Rattle.compose.specs.Writes.{Appends, Holds, filter_place, filter_before, num_size, num_fits, cond_size, cond_fits, lin_size, lin_fits, constraint_size, constraint_fits};
 ghost use Rattle.model.specs.Words.{word, num_at, cond_at, lin_at, constraint_at};
-ghost use Rattle.model.specs.declared.NumNode.TheVariants.{Fixed, Index, Entry, Op};
-ghost use Rattle.model.specs.declared.CondNode.TheVariants.{Relate, Both};
-ghost use Rattle.model.specs.declared.LinNode.TheVariants.{Term, Chain, Sum};
-ghost use Rattle.model.specs.declared.ConstraintNode.TheVariants.{Compare, All};
+ghost use Rattle.model.specs.declared.NumNode.TheVariants.{Entry};
+ghost use Rattle.model.specs.declared.LinNode.TheVariants.{Term};
 ghost use Rattle.std.specs.Int.{w64};
 ghost use Rattle.std.proofs.Common.{to_z};
 
 use crate::FIRST_NODE;
-use model::{Comparison, Operator, Over, Relation, Sign, TermNode};
+use model::{CondNode, ConstraintNode, LinNode, NumNode, Over, TermNode};
+
+// A sort of node. Writing is the way back of reading (`model::nodes`): what was written at a place
+// is read there as that node.
+pub trait Node: Copy {
+    // The node that words hold at a place.
+    ghost at: { List ℕ → ℕ → Option Self };
+    // How many words a node takes, and whether it may stand at a place: its parts stand before it.
+    ghost size: { Self → ℕ };
+
+    ghost fits: { Self → ℕ → Bool };
+
+    fn put(self, words: &mut [u64], free: usize) -> Option<usize>
+        ensures appends { Appends (fits self free) (size self) free result words.old words.new }
+        ensures here { OnSome result (at words.new free ≡ Some self) };
+}
 
 // Writes the words of a node, five at most.
-fn put(words: &mut [u64], free: usize, node: &[u64]) -> Option<usize>
+fn put_words(words: &mut [u64], free: usize, node: &[u64]) -> Option<usize>
     requires { length node.now ≤ 5 }
-    ensures next { result ≡ (if room (length words.old) free then Some (free + length node.now) else None) }
-    ensures refused { result ≡ None → words.new ≡ words.old }
-    ensures below { Agree 0 free words.old words.new }
-    ensures behind { Behind (free + length node.now) words.old words.new }
+    ensures appends { Appends true (length node.now) free result words.old words.new }
     ensures here { OnSome result (Holds words.new free node.now) }
 {
     let len = words.len();
@@ -39,146 +49,55 @@ fn put(words: &mut [u64], free: usize, node: &[u64]) -> Option<usize>
 
 // A table's number, which is one word.
 pub fn put_number(words: &mut [u64], free: usize, number: i64) -> Option<usize>
-    ensures next { result ≡ (if room (length words.old) free then Some (free + 1) else None) }
-    ensures refused { result ≡ None → words.new ≡ words.old }
-    ensures below { Agree 0 free words.old words.new }
-    ensures behind { Behind (free + 1) words.old words.new }
+    ensures appends { Appends true 1 free result words.old words.new }
     ensures here { OnSome result (to_z w64 (word words.new free) ≡ number) }
 {
-    put(words, free, &[number.cast_unsigned()])
+    put_words(words, free, &[number.cast_unsigned()])
 }
 
-// A number as it is.
-pub fn put_fixed(words: &mut [u64], free: usize, number: i64) -> Option<usize>
-    ensures next { result ≡ (if room (length words.old) free then Some (free + 2) else None) }
-    ensures refused { result ≡ None → words.new ≡ words.old }
-    ensures below { Agree 0 free words.old words.new }
-    ensures behind { Behind (free + 2) words.old words.new }
-    ensures here { OnSome result (num_at words.new free ≡ Fixed number) }
-{
-    put(words, free, &[1, number.cast_unsigned()])
-}
-
-// An index, by its level.
-pub fn put_index(words: &mut [u64], free: usize, level: usize) -> Option<usize>
-    ensures next { result ≡ (if room (length words.old) free then Some (free + 2) else None) }
-    ensures refused { result ≡ None → words.new ≡ words.old }
-    ensures below { Agree 0 free words.old words.new }
-    ensures behind { Behind (free + 2) words.old words.new }
-    ensures here { OnSome result (num_at words.new free ≡ Index level) }
-{
-    put(words, free, &[2, level as u64])
-}
-
-// A table's entry in a row and a column.
-pub fn put_entry(
-    words: &mut [u64],
-    free: usize,
-    table: usize,
-    row: usize,
-    column: usize,
-) -> Option<usize>
-    ensures next { result ≡ (if nat_lt row free && nat_lt column free && room (length words.old) free then Some (free + 4) else None) }
-    ensures refused { result ≡ None → words.new ≡ words.old }
-    ensures below { Agree 0 free words.old words.new }
-    ensures behind { Behind (free + 4) words.old words.new }
-    ensures here { OnSome result (num_at words.new free ≡ Entry table row column) }
-{
-    if row >= free || column >= free {
-        return None;
-    }
-    put(words, free, &[3, table as u64, row as u64, column as u64])
-}
-
-fn operator_tag(operator: Operator) -> u64
-    ensures { result ≡ operator_tag operator }
-{
-    match operator {
-        Operator::Plus => 4,
-        Operator::Minus => 5,
-        Operator::Times => 6,
-    }
-}
-
-// Two numbers, joined.
-pub fn put_operation(
-    words: &mut [u64],
-    free: usize,
-    operator: Operator,
-    left: usize,
-    right: usize,
-) -> Option<usize>
-    ensures next { result ≡ (if nat_lt left free && nat_lt right free && room (length words.old) free then Some (free + 3) else None) }
-    ensures refused { result ≡ None → words.new ≡ words.old }
-    ensures below { Agree 0 free words.old words.new }
-    ensures behind { Behind (free + 3) words.old words.new }
-    ensures here { OnSome result (num_at words.new free ≡ Op operator left right) }
+// A node of two parts that are nodes, under a tag.
+fn put_pair(words: &mut [u64], free: usize, tag: u64, left: usize, right: usize) -> Option<usize>
+    ensures appends { Appends (nat_lt left free && nat_lt right free) 3 free result words.old words.new }
+    ensures here { OnSome result (Holds words.new free (tag ∷ (left ∷ (right ∷ [])))) }
 {
     if left >= free || right >= free {
         return None;
     }
-    put(
+    put_words(words, free, &[tag, left as u64, right as u64])
+}
+
+// The word for a condition that stands before a place, 0 for none. A condition at place 0 would be
+// read as none, and is refused.
+fn filter_word(filter: Option<usize>, free: usize) -> Option<u64>
+    ensures { result ≡ (if filter_before filter free then Some (filter_place filter) else None) }
+{
+    match filter {
+        None => Some(0),
+        Some(place) if 0 < place && place < free => Some(place as u64),
+        Some(_) => None,
+    }
+}
+
+// What goes through a set, under a tag.
+fn put_over(words: &mut [u64], free: usize, tag: u64, over: Over) -> Option<usize>
+    ensures appends { Appends (nat_lt over.body free && filter_before over.filter free) 4 free result words.old words.new }
+    ensures here { OnSome result (Holds words.new free (tag ∷ (over.set ∷ (filter_place over.filter ∷ (over.body ∷ []))))) }
+{
+    if over.body >= free {
+        return None;
+    }
+    let filter = filter_word(over.filter, free)?;
+    put_words(
         words,
         free,
-        &[operator_tag(operator), left as u64, right as u64],
+        &[tag, over.set as u64, filter, over.body as u64],
     )
-}
-
-fn relation_tag(relation: Relation) -> u64
-    ensures { result ≡ relation_tag relation }
-{
-    match relation {
-        Relation::Less => 7,
-        Relation::Equal => 8,
-        Relation::Differ => 9,
-    }
-}
-
-// A condition on two numbers.
-pub fn put_relation(
-    words: &mut [u64],
-    free: usize,
-    relation: Relation,
-    left: usize,
-    right: usize,
-) -> Option<usize>
-    ensures next { result ≡ (if nat_lt left free && nat_lt right free && room (length words.old) free then Some (free + 3) else None) }
-    ensures refused { result ≡ None → words.new ≡ words.old }
-    ensures below { Agree 0 free words.old words.new }
-    ensures behind { Behind (free + 3) words.old words.new }
-    ensures here { OnSome result (cond_at words.new free ≡ Relate relation left right) }
-{
-    if left >= free || right >= free {
-        return None;
-    }
-    put(
-        words,
-        free,
-        &[relation_tag(relation), left as u64, right as u64],
-    )
-}
-
-// Two conditions that both hold.
-pub fn put_both(words: &mut [u64], free: usize, left: usize, right: usize) -> Option<usize>
-    ensures next { result ≡ (if nat_lt left free && nat_lt right free && room (length words.old) free then Some (free + 3) else None) }
-    ensures refused { result ≡ None → words.new ≡ words.old }
-    ensures below { Agree 0 free words.old words.new }
-    ensures behind { Behind (free + 3) words.old words.new }
-    ensures here { OnSome result (cond_at words.new free ≡ Both left right) }
-{
-    if left >= free || right >= free {
-        return None;
-    }
-    put(words, free, &[10, left as u64, right as u64])
 }
 
 // A number times a variable.
-pub fn put_term(words: &mut [u64], free: usize, term: TermNode) -> Option<usize>
-    ensures next { result ≡ (if nat_lt term.number free && nat_lt term.row free && nat_lt term.column free && room (length words.old) free then Some (free + 5) else None) }
-    ensures refused { result ≡ None → words.new ≡ words.old }
-    ensures below { Agree 0 free words.old words.new }
-    ensures behind { Behind (free + 5) words.old words.new }
-    ensures here { OnSome result (lin_at words.new free ≡ Term term) }
+fn put_term(words: &mut [u64], free: usize, term: TermNode) -> Option<usize>
+    ensures appends { Appends (lin_fits (Term term) free) 5 free result words.old words.new }
+    ensures here { OnSome result (lin_at words.new free ≡ Some (Term term)) }
 {
     if term.number >= free || term.row >= free || term.column >= free {
         return None;
@@ -190,124 +109,97 @@ pub fn put_term(words: &mut [u64], free: usize, term: TermNode) -> Option<usize>
         term.row as u64,
         term.column as u64,
     ];
-    put(words, free, &node)
+    put_words(words, free, &node)
 }
 
-fn chain_tag(sign: Sign) -> u64
-    ensures { result ≡ chain_tag sign }
-{
-    match sign {
-        Sign::Positive => 12,
-        Sign::Negative => 13,
-    }
-}
-
-// A term with its sign, and what follows it: place 0 where nothing does.
-pub fn put_chain(
+// An entry of a table.
+fn put_entry(
     words: &mut [u64],
     free: usize,
-    sign: Sign,
-    term: usize,
-    rest: usize,
+    table: usize,
+    row: usize,
+    column: usize,
 ) -> Option<usize>
-    ensures next { result ≡ (if nat_lt term free && nat_lt rest free && room (length words.old) free then Some (free + 3) else None) }
-    ensures refused { result ≡ None → words.new ≡ words.old }
-    ensures below { Agree 0 free words.old words.new }
-    ensures behind { Behind (free + 3) words.old words.new }
-    ensures here { OnSome result (lin_at words.new free ≡ Chain sign term rest) }
+    ensures appends { Appends (num_fits (Entry table row column) free) 4 free result words.old words.new }
+    ensures here { OnSome result (num_at words.new free ≡ Some (Entry table row column)) }
 {
-    if term >= free || rest >= free {
+    if row >= free || column >= free {
         return None;
     }
-    put(words, free, &[chain_tag(sign), term as u64, rest as u64])
+    put_words(words, free, &[3, table as u64, row as u64, column as u64])
 }
 
-// The word for a condition that stands before a place, 0 for none. A condition at place 0 would be
-// read as none, and is refused.
-fn filter_word(filter: Option<usize>, free: usize) -> Option<u64>
-    ensures { result ≡ (if filter_before filter free then Some (filter_place filter) else None) }
-{
-    let Some(place) = filter else {
-        return Some(0);
-    };
-    if 0 < place && place < free {
-        Some(place as u64)
-    } else {
-        None
+// Numbers.
+impl Node for NumNode {
+    ghost at = { num_at };
+
+    ghost size = { num_size };
+
+    ghost fits = { num_fits };
+
+    fn put(self, words: &mut [u64], free: usize) -> Option<usize> {
+        match self {
+            NumNode::Fixed(number) => put_words(words, free, &[1, number.cast_unsigned()]),
+            NumNode::Index(level) => put_words(words, free, &[2, level as u64]),
+            NumNode::Entry(table, row, column) => put_entry(words, free, table, row, column),
+            NumNode::Op(operator, left, right) => {
+                put_pair(words, free, operator as u64, left, right)
+            }
+        }
     }
 }
 
-// What goes through a set, under a tag.
-fn put_over(words: &mut [u64], free: usize, tag: u64, over: Over) -> Option<usize>
-    ensures next { result ≡ (if nat_lt over.body free && filter_before over.filter free && room (length words.old) free then Some (free + 4) else None) }
-    ensures refused { result ≡ None → words.new ≡ words.old }
-    ensures below { Agree 0 free words.old words.new }
-    ensures behind { Behind (free + 4) words.old words.new }
-    ensures here { OnSome result (Holds words.new free (tag ∷ (over.set ∷ (filter_place over.filter ∷ (over.body ∷ []))))) }
-{
-    if over.body >= free {
-        return None;
-    }
-    let filter = filter_word(over.filter, free)?;
-    put(
-        words,
-        free,
-        &[tag, over.set as u64, filter, over.body as u64],
-    )
-}
+// Conditions.
+impl Node for CondNode {
+    ghost at = { cond_at };
 
-// A sum over a set.
-pub fn put_sum(words: &mut [u64], free: usize, over: Over) -> Option<usize>
-    ensures next { result ≡ (if nat_lt over.body free && filter_before over.filter free && room (length words.old) free then Some (free + 4) else None) }
-    ensures refused { result ≡ None → words.new ≡ words.old }
-    ensures below { Agree 0 free words.old words.new }
-    ensures behind { Behind (free + 4) words.old words.new }
-    ensures here { OnSome result (lin_at words.new free ≡ Sum over) }
-{
-    put_over(words, free, 14, over)
-}
+    ghost size = { cond_size };
 
-fn comparison_tag(comparison: Comparison) -> u64
-    ensures { result ≡ comparison_tag comparison }
-{
-    match comparison {
-        Comparison::AtMost => 15,
-        Comparison::AtLeast => 16,
-        Comparison::Exactly => 17,
+    ghost fits = { cond_fits };
+
+    fn put(self, words: &mut [u64], free: usize) -> Option<usize> {
+        match self {
+            CondNode::Relate(relation, left, right) => {
+                put_pair(words, free, relation as u64, left, right)
+            }
+            CondNode::Both(left, right) => put_pair(words, free, 10, left, right),
+        }
     }
 }
 
-// A constraint on two sums.
-pub fn put_compare(
-    words: &mut [u64],
-    free: usize,
-    comparison: Comparison,
-    left: usize,
-    right: usize,
-) -> Option<usize>
-    ensures next { result ≡ (if nat_lt left free && nat_lt right free && room (length words.old) free then Some (free + 3) else None) }
-    ensures refused { result ≡ None → words.new ≡ words.old }
-    ensures below { Agree 0 free words.old words.new }
-    ensures behind { Behind (free + 3) words.old words.new }
-    ensures here { OnSome result (constraint_at words.new free ≡ Compare comparison left right) }
-{
-    if left >= free || right >= free {
-        return None;
+// Linear sums. A chain's rest is place 0 where nothing follows. A number by itself is the number's
+// own node, and nothing is place 0, so that neither is written.
+impl Node for LinNode {
+    ghost at = { lin_at };
+
+    ghost size = { lin_size };
+
+    ghost fits = { lin_fits };
+
+    fn put(self, words: &mut [u64], free: usize) -> Option<usize> {
+        match self {
+            LinNode::Term(term) => put_term(words, free, term),
+            LinNode::Sum(over) => put_over(words, free, 14, over),
+            LinNode::Chain(sign, term, rest) => put_pair(words, free, sign as u64, term, rest),
+            LinNode::Amount | LinNode::Nothing => None,
+        }
     }
-    put(
-        words,
-        free,
-        &[comparison_tag(comparison), left as u64, right as u64],
-    )
 }
 
-// A constraint for all of a set.
-pub fn put_all(words: &mut [u64], free: usize, over: Over) -> Option<usize>
-    ensures next { result ≡ (if nat_lt over.body free && filter_before over.filter free && room (length words.old) free then Some (free + 4) else None) }
-    ensures refused { result ≡ None → words.new ≡ words.old }
-    ensures below { Agree 0 free words.old words.new }
-    ensures behind { Behind (free + 4) words.old words.new }
-    ensures here { OnSome result (constraint_at words.new free ≡ All over) }
-{
-    put_over(words, free, 18, over)
+// Constraints.
+impl Node for ConstraintNode {
+    ghost at = { constraint_at };
+
+    ghost size = { constraint_size };
+
+    ghost fits = { constraint_fits };
+
+    fn put(self, words: &mut [u64], free: usize) -> Option<usize> {
+        match self {
+            ConstraintNode::Compare(comparison, left, right) => {
+                put_pair(words, free, comparison as u64, left, right)
+            }
+            ConstraintNode::All(over) => put_over(words, free, 18, over),
+        }
+    }
 }

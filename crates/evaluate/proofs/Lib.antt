@@ -1,4 +1,4 @@
+pub mod Nodes
 pub mod Working
 pub mod Indexes
-pub mod Terms
 pub mod Runs

@@ -1,25 +1,22 @@
 // Conditions, and the optional one after `where`.
-ghost use Rattle.model.specs.Evaluation.{then, worked_condition, worked_filter};
+ghost use Rattle.model.specs.Evaluation.{worked_condition, worked_filter};
 ghost use Rattle.model.specs.Kept.{CondIn, FilterIn, symbols_in};
 ghost use Rattle.model.specs.Meaning.{related};
 ghost use Rattle.model.specs.Model.{Cond};
-ghost use Rattle.std.specs.Prelude.{◌≡◌, Some, Option};
+ghost use Rattle.std.specs.Prelude.{◌≡◌, Option};
 
 use crate::numbers::number;
 use model::nodes::cond_node;
 use model::{CondNode, Relation};
 
-// Whether two numbers stand in a relation, where both could be worked out.
-fn compare(relation: Relation, left: Option<i64>, right: Option<i64>) -> Option<bool>
-    ensures { result ≡ then left (λ a. then right (λ b. Some (related relation a b))) }
+// Whether two numbers stand in a relation.
+fn holds(relation: Relation, a: i64, b: i64) -> bool
+    ensures { result ≡ related relation a b }
 {
-    let (Some(a), Some(b)) = (left, right) else {
-        return None;
-    };
     match relation {
-        Relation::Less => Some(a < b),
-        Relation::Equal => Some(a == b),
-        Relation::Differ => Some(a != b),
+        Relation::Less => a < b,
+        Relation::Equal => a == b,
+        Relation::Differ => a != b,
     }
 }
 
@@ -27,21 +24,15 @@ fn compare(relation: Relation, left: Option<i64>, right: Option<i64>) -> Option<
 pub fn condition(words: &[u64], indexes: &[u32], k: usize) -> Option<bool>
     ensures { (c : Cond) → CondIn words.now k c → result ≡ worked_condition (symbols_in words.now) indexes.now c }
 {
-    match cond_node(words, k) {
+    match cond_node(words, k)? {
         CondNode::Relate(r, i, j) => {
-            compare(r, number(words, indexes, i), number(words, indexes, j))
+            let left = number(words, indexes, i)?;
+            let right = number(words, indexes, j)?;
+            Some(holds(r, left, right))
         }
-        CondNode::Both(i, j) => {
-            let Some(first) = condition(words, indexes, i) else {
-                return None;
-            };
-            if first {
-                condition(words, indexes, j)
-            } else {
-                Some(false)
-            }
-        }
-        CondNode::Bad => None,
+        CondNode::Both(i, j) => Some(
+            condition(words, indexes, i)? && condition(words, indexes, j)?,
+        ),
     }
 }
 

@@ -8,4 +8,5 @@
 pub mod conditions;
 pub mod constraints;
 pub mod numbers;
+mod site;
 pub mod sums;

@@ -1,7 +1,8 @@
 // Numbers: fixed ones, indexes, entries of tables, and these joined.
-ghost use Rattle.model.specs.Evaluation.{combined, worked_number};
+ghost use Rattle.integer.specs.Checked.{checked};
+ghost use Rattle.model.specs.Evaluation.{worked_number};
 ghost use Rattle.model.specs.Kept.{NumIn, symbols_in};
-ghost use Rattle.model.specs.Meaning.{entry_of, operate, table_of};
+ghost use Rattle.model.specs.Meaning.{operate};
 ghost use Rattle.model.specs.Model.{Num};
 ghost use Rattle.std.specs.Prelude.{◌≡◌, pos, slice_index};
 
@@ -14,30 +15,13 @@ use model::{NumNode, Operator};
 fn index(indexes: &[u32], l: usize) -> i64
     ensures { result ≡ pos (slice_index indexes.now l) }
 {
-    if l < indexes.len() {
-        i64::from(indexes[l])
-    } else {
-        0
-    }
+    i64::from(indexes.get(l).copied().unwrap_or(0))
 }
 
-// An entry of table t, where its row and its column could be worked out.
-fn entry(words: &[u64], t: usize, row: Option<i64>, column: Option<i64>) -> Option<i64>
-    ensures { result ≡ combined (entry_of (table_of (symbols_in words.now) t)) row column }
+// Two numbers joined.
+fn joined(o: Operator, a: i64, b: i64) -> Option<i64>
+    ensures { result ≡ checked (operate o a b) }
 {
-    let (Some(i), Some(j)) = (row, column) else {
-        return None;
-    };
-    in_range(table_entry(words, t, i, j))
-}
-
-// Two numbers joined, where both could be worked out.
-fn joined(o: Operator, left: Option<i64>, right: Option<i64>) -> Option<i64>
-    ensures { result ≡ combined (operate o) left right }
-{
-    let (Some(a), Some(b)) = (left, right) else {
-        return None;
-    };
     match o {
         Operator::Plus => sum(a, b),
         Operator::Minus => difference(a, b),
@@ -49,18 +33,18 @@ fn joined(o: Operator, left: Option<i64>, right: Option<i64>) -> Option<i64>
 pub fn number(words: &[u64], indexes: &[u32], k: usize) -> Option<i64>
     ensures { (e : Num) → NumIn words.now k e → result ≡ worked_number (symbols_in words.now) indexes.now e }
 {
-    match num_node(words, k) {
+    match num_node(words, k)? {
         NumNode::Fixed(a) => in_range(a),
         NumNode::Index(l) => in_range(index(indexes, l)),
         NumNode::Entry(t, i, j) => {
-            entry(
-                words,
-                t,
-                number(words, indexes, i),
-                number(words, indexes, j),
-            )
+            let row = number(words, indexes, i)?;
+            let column = number(words, indexes, j)?;
+            in_range(table_entry(words, t, row, column))
         }
-        NumNode::Op(o, i, j) => joined(o, number(words, indexes, i), number(words, indexes, j)),
-        NumNode::Bad => None,
+        NumNode::Op(o, i, j) => {
+            let left = number(words, indexes, i)?;
+            let right = number(words, indexes, j)?;
+            joined(o, left, right)
+        }
     }
 }

@@ -3,13 +3,13 @@ use Rattle.std.proofs.Common.{◌≡◌, ℕ, zero, suc, ◌+◌, ◌<◌, List,
 use Rattle.std.proofs.lemmas.Bool.Decides.{nat_tests}
 use Rattle.model.specs.declared.Sign.{Sign}
 use Rattle.model.specs.declared.NumNode.{NumNode}
-use Rattle.model.specs.declared.NumNode.TheVariants.{Fixed, Index, Entry, Op, Bad as no_num}
+use Rattle.model.specs.declared.NumNode.TheVariants.{Fixed, Index, Entry, Op}
 use Rattle.model.specs.declared.CondNode.{CondNode}
-use Rattle.model.specs.declared.CondNode.TheVariants.{Relate, Both, Bad as no_cond}
+use Rattle.model.specs.declared.CondNode.TheVariants.{Relate, Both}
 use Rattle.model.specs.declared.LinNode.{LinNode}
-use Rattle.model.specs.declared.LinNode.TheVariants.{Amount, Term, Sum, Chain, Nothing, Bad as no_lin}
+use Rattle.model.specs.declared.LinNode.TheVariants.{Amount, Term, Sum, Chain, Nothing}
 use Rattle.model.specs.declared.ConstraintNode.{ConstraintNode}
-use Rattle.model.specs.declared.ConstraintNode.TheVariants.{Compare, All, Bad as no_constraint}
+use Rattle.model.specs.declared.ConstraintNode.TheVariants.{Compare, All}
 use Rattle.model.specs.Model.{Num, fixed, index, entry, joined, Cond, relate, both, Lin, amount, term, sum_over, chain, nothing, Constraint, compare, for_all, Model}
 use Rattle.model.specs.Words.{num_at, cond_at, lin_at, constraint_at, constraint_count, constraint_place, objective_place}
 use Rattle.model.specs.Kept.{NumIn, CondIn, FilterIn, LinIn, ConstraintIn, ConstraintsIn, Keeps}
@@ -17,39 +17,39 @@ use Rattle.model.specs.Claims.{OneModel}
 
 -- the trees that a node allows
 
-abbrev pub NumFit : List ℕ → NumNode → Num → Type 0
-NumFit ws (Fixed a) e = e ≡ fixed a
-NumFit ws (Index l) e = e ≡ index l
-NumFit ws (Entry t i j) e = (f : Num) × (g : Num) × (e ≡ entry t f g) × NumIn ws i f × NumIn ws j g
-NumFit ws (Op o i j) e = (f : Num) × (g : Num) × (e ≡ joined o f g) × NumIn ws i f × NumIn ws j g
-NumFit ws no_num e = ⊥
+abbrev pub NumFit : List ℕ → Option NumNode → Num → Type 0
+NumFit ws (Some (Fixed a)) e = e ≡ fixed a
+NumFit ws (Some (Index l)) e = e ≡ index l
+NumFit ws (Some (Entry t i j)) e = (f : Num) × (g : Num) × (e ≡ entry t f g) × NumIn ws i f × NumIn ws j g
+NumFit ws (Some (Op o i j)) e = (f : Num) × (g : Num) × (e ≡ joined o f g) × NumIn ws i f × NumIn ws j g
+NumFit ws None e = ⊥
 
-pub num_fit : {n : NumNode} (ws : List ℕ) (k : ℕ) → n ≡ num_at ws k → (e : Num) → NumIn ws k e → NumFit ws n e
+pub num_fit : {n : Option NumNode} (ws : List ℕ) (k : ℕ) → n ≡ num_at ws k → (e : Num) → NumIn ws k e → NumFit ws n e
 unfolding NumIn
 num_fit ws k h (fixed a) p = subst (λ n. NumFit ws n (fixed a)) (sym (h ∙ p)) refl
 num_fit ws k h (index l) p = subst (λ n. NumFit ws n (index l)) (sym (h ∙ p)) refl
 num_fit ws k h (entry t e f) (i, j, p, q, r) = subst (λ n. NumFit ws n (entry t e f)) (sym (h ∙ p)) (e, f, refl, q, r)
 num_fit ws k h (joined o e f) (i, j, p, q, r) = subst (λ n. NumFit ws n (joined o e f)) (sym (h ∙ p)) (e, f, refl, q, r)
 
-abbrev pub CondFit : List ℕ → CondNode → Cond → Type 0
-CondFit ws (Relate r i j) c = (e : Num) × (f : Num) × (c ≡ relate r e f) × NumIn ws i e × NumIn ws j f
-CondFit ws (Both i j) c = (d : Cond) × (e : Cond) × (c ≡ both d e) × CondIn ws i d × CondIn ws j e
-CondFit ws no_cond c = ⊥
+abbrev pub CondFit : List ℕ → Option CondNode → Cond → Type 0
+CondFit ws (Some (Relate r i j)) c = (e : Num) × (f : Num) × (c ≡ relate r e f) × NumIn ws i e × NumIn ws j f
+CondFit ws (Some (Both i j)) c = (d : Cond) × (e : Cond) × (c ≡ both d e) × CondIn ws i d × CondIn ws j e
+CondFit ws None c = ⊥
 
-pub cond_fit : {n : CondNode} (ws : List ℕ) (k : ℕ) → n ≡ cond_at ws k → (c : Cond) → CondIn ws k c → CondFit ws n c
+pub cond_fit : {n : Option CondNode} (ws : List ℕ) (k : ℕ) → n ≡ cond_at ws k → (c : Cond) → CondIn ws k c → CondFit ws n c
 unfolding CondIn
 cond_fit ws k h (relate r e f) (i, j, p, q, s) = subst (λ n. CondFit ws n (relate r e f)) (sym (h ∙ p)) (e, f, refl, q, s)
 cond_fit ws k h (both c d) (i, j, p, q, s) = subst (λ n. CondFit ws n (both c d)) (sym (h ∙ p)) (c, d, refl, q, s)
 
-abbrev pub LinFit : List ℕ → ℕ → LinNode → Lin → Type 0
-LinFit ws k Amount l = (e : Num) × (l ≡ amount e) × NumIn ws k e
-LinFit ws k (Term t) l = (e : Num) × (f : Num) × (g : Num) × (l ≡ term e t.array f g) × NumIn ws t.number e × NumIn ws t.row f × NumIn ws t.column g
-LinFit ws k (Chain g i j) l = (a : Lin) × (b : Lin) × (l ≡ chain g a b) × LinIn ws i a × LinIn ws j b
-LinFit ws k Nothing l = l ≡ nothing
-LinFit ws k (Sum o) l = (c : Option Cond) × (a : Lin) × (l ≡ sum_over o.set c a) × FilterIn ws o.filter c × LinIn ws o.body a
-LinFit ws k no_lin l = ⊥
+abbrev pub LinFit : List ℕ → ℕ → Option LinNode → Lin → Type 0
+LinFit ws k (Some Amount) l = (e : Num) × (l ≡ amount e) × NumIn ws k e
+LinFit ws k (Some (Term t)) l = (e : Num) × (f : Num) × (g : Num) × (l ≡ term e t.array f g) × NumIn ws t.number e × NumIn ws t.row f × NumIn ws t.column g
+LinFit ws k (Some (Chain g i j)) l = (a : Lin) × (b : Lin) × (l ≡ chain g a b) × LinIn ws i a × LinIn ws j b
+LinFit ws k (Some Nothing) l = l ≡ nothing
+LinFit ws k (Some (Sum o)) l = (c : Option Cond) × (a : Lin) × (l ≡ sum_over o.set c a) × FilterIn ws o.filter c × LinIn ws o.body a
+LinFit ws k None l = ⊥
 
-pub lin_fit : {n : LinNode} (ws : List ℕ) (k : ℕ) → n ≡ lin_at ws k → (l : Lin) → LinIn ws k l → LinFit ws k n l
+pub lin_fit : {n : Option LinNode} (ws : List ℕ) (k : ℕ) → n ≡ lin_at ws k → (l : Lin) → LinIn ws k l → LinFit ws k n l
 unfolding LinIn
 lin_fit ws k h (amount e) (p, q) = subst (λ n. LinFit ws k n (amount e)) (sym (h ∙ p)) (e, refl, q)
 lin_fit ws k h (term e n f g) (t, p, a, q, r, s) = subst (λ x. LinFit ws k x (term e n f g)) (sym (h ∙ p)) (e, f, g, ap (λ m. term e m f g) (sym a), q, r, s)
@@ -57,18 +57,18 @@ lin_fit ws k h (sum_over n c l) (o, p, a, q, r) = subst (λ x. LinFit ws k x (su
 lin_fit ws k h (chain g t l) (i, j, p, q, r) = subst (λ n. LinFit ws k n (chain g t l)) (sym (h ∙ p)) (t, l, refl, q, r)
 lin_fit ws k h nothing p = subst (λ n. LinFit ws k n nothing) (sym (h ∙ p)) refl
 
-abbrev pub ConstraintFit : List ℕ → ConstraintNode → Constraint → Type 0
-ConstraintFit ws (Compare c i j) r = (a : Lin) × (b : Lin) × (r ≡ compare c a b) × LinIn ws i a × LinIn ws j b
-ConstraintFit ws (All o) r = (c : Option Cond) × (q : Constraint) × (r ≡ for_all o.set c q) × FilterIn ws o.filter c × ConstraintIn ws o.body q
-ConstraintFit ws no_constraint r = ⊥
+abbrev pub ConstraintFit : List ℕ → Option ConstraintNode → Constraint → Type 0
+ConstraintFit ws (Some (Compare c i j)) r = (a : Lin) × (b : Lin) × (r ≡ compare c a b) × LinIn ws i a × LinIn ws j b
+ConstraintFit ws (Some (All o)) r = (c : Option Cond) × (q : Constraint) × (r ≡ for_all o.set c q) × FilterIn ws o.filter c × ConstraintIn ws o.body q
+ConstraintFit ws None r = ⊥
 
-pub constraint_fit : {n : ConstraintNode} (ws : List ℕ) (k : ℕ) → n ≡ constraint_at ws k → (r : Constraint) → ConstraintIn ws k r → ConstraintFit ws n r
+pub constraint_fit : {n : Option ConstraintNode} (ws : List ℕ) (k : ℕ) → n ≡ constraint_at ws k → (r : Constraint) → ConstraintIn ws k r → ConstraintFit ws n r
 unfolding ConstraintIn
 constraint_fit ws k h (compare c l r) (i, j, p, q, s) = subst (λ n. ConstraintFit ws n (compare c l r)) (sym (h ∙ p)) (l, r, refl, q, s)
 constraint_fit ws k h (for_all n c r) (o, p, a, q, s) = subst (λ x. ConstraintFit ws x (for_all n c r)) (sym (h ∙ p)) (c, r, ap (λ m. for_all m c r) (sym a), q, s)
 
 -- the parts of a chain stand before it
-pub chain_below : (ws : List ℕ) (k : ℕ) (g : Sign) (i j : ℕ) → Chain g i j ≡ lin_at ws k → (i < k) × (j < k)
+pub chain_below : (ws : List ℕ) (k : ℕ) (g : Sign) (i j : ℕ) → Some (Chain g i j) ≡ lin_at ws k → (i < k) × (j < k)
 chain_below ws k g i j h = grind (arith, nat_tests)
 
 -- a node stands for one tree at most

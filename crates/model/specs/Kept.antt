@@ -32,14 +32,14 @@ Numbered ws = (k : ℕ) → k < array_count ws → array_first ws k ≡ first (s
 
 -- the node at k stands for a number, a condition, a sum, a constraint
 unfoldable pub NumIn : List ℕ → ℕ → Num → Type 0
-NumIn ws k (fixed a) = num_at ws k ≡ Fixed a
-NumIn ws k (index l) = num_at ws k ≡ Index l
-NumIn ws k (entry t e f) = (i : ℕ) × (j : ℕ) × (num_at ws k ≡ Entry t i j) × NumIn ws i e × NumIn ws j f
-NumIn ws k (joined o e f) = (i : ℕ) × (j : ℕ) × (num_at ws k ≡ Op o i j) × NumIn ws i e × NumIn ws j f
+NumIn ws k (fixed a) = num_at ws k ≡ Some (Fixed a)
+NumIn ws k (index l) = num_at ws k ≡ Some (Index l)
+NumIn ws k (entry t e f) = (i : ℕ) × (j : ℕ) × (num_at ws k ≡ Some (Entry t i j)) × NumIn ws i e × NumIn ws j f
+NumIn ws k (joined o e f) = (i : ℕ) × (j : ℕ) × (num_at ws k ≡ Some (Op o i j)) × NumIn ws i e × NumIn ws j f
 
 unfoldable pub CondIn : List ℕ → ℕ → Cond → Type 0
-CondIn ws k (relate r e f) = (i : ℕ) × (j : ℕ) × (cond_at ws k ≡ Relate r i j) × NumIn ws i e × NumIn ws j f
-CondIn ws k (both c d) = (i : ℕ) × (j : ℕ) × (cond_at ws k ≡ Both i j) × CondIn ws i c × CondIn ws j d
+CondIn ws k (relate r e f) = (i : ℕ) × (j : ℕ) × (cond_at ws k ≡ Some (Relate r i j)) × NumIn ws i e × NumIn ws j f
+CondIn ws k (both c d) = (i : ℕ) × (j : ℕ) × (cond_at ws k ≡ Some (Both i j)) × CondIn ws i c × CondIn ws j d
 
 unfoldable pub FilterIn : List ℕ → Option ℕ → Option Cond → Type 0
 FilterIn ws None None = Unit {0}
@@ -48,15 +48,15 @@ FilterIn ws (Some k) None = ⊥
 FilterIn ws (Some k) (Some c) = CondIn ws k c
 
 unfoldable pub LinIn : List ℕ → ℕ → Lin → Type 0
-LinIn ws k (amount e) = (lin_at ws k ≡ Amount) × NumIn ws k e
-LinIn ws k (term e n f g) = (t : TermNode) × (lin_at ws k ≡ Term t) × (t.array ≡ n) × NumIn ws t.number e × NumIn ws t.row f × NumIn ws t.column g
-LinIn ws k (sum_over n c l) = (o : Over) × (lin_at ws k ≡ Sum o) × (o.set ≡ n) × FilterIn ws o.filter c × LinIn ws o.body l
-LinIn ws k (chain g t l) = (i : ℕ) × (j : ℕ) × (lin_at ws k ≡ Chain g i j) × LinIn ws i t × LinIn ws j l
-LinIn ws k nothing = lin_at ws k ≡ Nothing
+LinIn ws k (amount e) = (lin_at ws k ≡ Some Amount) × NumIn ws k e
+LinIn ws k (term e n f g) = (t : TermNode) × (lin_at ws k ≡ Some (Term t)) × (t.array ≡ n) × NumIn ws t.number e × NumIn ws t.row f × NumIn ws t.column g
+LinIn ws k (sum_over n c l) = (o : Over) × (lin_at ws k ≡ Some (Sum o)) × (o.set ≡ n) × FilterIn ws o.filter c × LinIn ws o.body l
+LinIn ws k (chain g t l) = (i : ℕ) × (j : ℕ) × (lin_at ws k ≡ Some (Chain g i j)) × LinIn ws i t × LinIn ws j l
+LinIn ws k nothing = lin_at ws k ≡ Some Nothing
 
 unfoldable pub ConstraintIn : List ℕ → ℕ → Constraint → Type 0
-ConstraintIn ws k (compare c l r) = (i : ℕ) × (j : ℕ) × (constraint_at ws k ≡ Compare c i j) × LinIn ws i l × LinIn ws j r
-ConstraintIn ws k (for_all n c r) = (o : Over) × (constraint_at ws k ≡ All o) × (o.set ≡ n) × FilterIn ws o.filter c × ConstraintIn ws o.body r
+ConstraintIn ws k (compare c l r) = (i : ℕ) × (j : ℕ) × (constraint_at ws k ≡ Some (Compare c i j)) × LinIn ws i l × LinIn ws j r
+ConstraintIn ws k (for_all n c r) = (o : Over) × (constraint_at ws k ≡ Some (All o)) × (o.set ≡ n) × FilterIn ws o.filter c × ConstraintIn ws o.body r
 
 -- constraints from number k on
 unfoldable pub ConstraintsIn : List ℕ → ℕ → List Constraint → Type 0

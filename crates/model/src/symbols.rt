@@ -16,11 +16,11 @@ use crate::Line;
 
 // There are at most so many sets, and tables, and arrays; constraints; lines; elements of a set,
 // rows or columns; variables.
-const MOST_SYMBOLS: usize = 16;
+pub const MOST_SYMBOLS: usize = 16;
 
-const MOST_CONSTRAINTS: usize = 256;
+pub const MOST_CONSTRAINTS: usize = 256;
 
-const MOST_LINES: usize = 305;
+pub const MOST_LINES: usize = 305;
 
 const MOST_ROWS: u64 = 1000;
 
@@ -30,15 +30,14 @@ const MOST_VARIABLES: u64 = 16_000_000;
 fn word(words: &[u64], i: usize) -> u64
     ensures { result ≡ word_in words.now i }
 {
-    if i < words.len() { words[i] } else { 0 }
+    words.get(i).copied().unwrap_or(0)
 }
 
 // How many there are of what word i counts, `most` at most.
 fn count(words: &[u64], i: usize, most: usize) -> usize
     ensures { result ≡ min most (word_in words.now i) }
 {
-    let n = word(words, i) as usize;
-    if n < most { n } else { most }
+    most.min(word(words, i) as usize)
 }
 
 // Word i, or 0 where it is above what it may be.
@@ -55,11 +54,7 @@ fn index_below(i: i64, n: usize) -> Option<usize>
     ensures value { result ≡ (if below n i then Some (unsigned_abs i) else None) }
     ensures bound { IfSome result (λ k. k < n) }
 {
-    if i < 0 {
-        return None;
-    }
-    let k = i.unsigned_abs() as usize;
-    if k < n { Some(k) } else { None }
+    usize::try_from(i).ok().filter(|k| *k < n)
 }
 
 // The place of row i and column j, counted row by row, or none beyond the ends.
@@ -68,20 +63,17 @@ fn place(rows: usize, columns: usize, i: i64, j: i64) -> Option<usize>
     ensures value { result ≡ (if inside rows columns i j then Some (place_in columns i j) else None) }
     ensures bound { IfSome result (λ k. (k < rows * columns) × (k < 1000000)) }
 {
-    let (Some(a), Some(b)) = (index_below(i, rows), index_below(j, columns)) else {
-        return None;
-    };
-    Some(a * columns + b)
+    Some(index_below(i, rows)? * columns + index_below(j, columns)?)
 }
 
 // The number with sign in the word `offset` behind `start`.
 fn number_behind(words: &[u64], start: usize, offset: usize) -> i64
     ensures { result ≡ to_z w64 (word_in words.now (start + offset)) }
 {
-    match start.checked_add(offset) {
-        Some(i) => word(words, i).cast_signed(),
-        None => 0,
-    }
+    let Some(i) = start.checked_add(offset) else {
+        return 0;
+    };
+    word(words, i).cast_signed()
 }
 
 // The size of set k; 0 where there is none.
@@ -119,10 +111,7 @@ pub fn variable(words: &[u64], a: usize, i: i64, j: i64) -> Option<usize>
     }
     let rows = limited(words, 200 + 8 * a, MOST_ROWS);
     let columns = limited(words, 201 + 8 * a, MOST_ROWS);
-    match place(rows, columns, i, j) {
-        Some(p) => Some(limited(words, 204 + 8 * a, MOST_VARIABLES) + p),
-        None => None,
-    }
+    Some(limited(words, 204 + 8 * a, MOST_VARIABLES) + place(rows, columns, i, j)?)
 }
 
 // The node of constraint k, or none where there are no more.
@@ -143,20 +132,20 @@ pub fn objective_place(words: &[u64]) -> usize
     word(words, 4) as usize
 }
 
-// Line i of the text, in the text's order.
-pub fn line(words: &[u64], i: usize) -> Line
+// Line i of the text, in the text's order, or none where there are no more.
+pub fn line(words: &[u64], i: usize) -> Option<Line>
     ensures { result ≡ line_at words.now i }
 {
     if i >= count(words, 5, MOST_LINES) {
-        return Line::Bad;
+        return None;
     }
     let n = word(words, 585 + 4 * i) as usize;
     match word(words, 584 + 4 * i) {
-        1 => Line::Set(n),
-        2 => Line::Table(n),
-        3 => Line::Variables(n),
-        4 => Line::Objective,
-        5 => Line::Constraint(n),
-        _ => Line::Bad,
+        1 => Some(Line::Set(n)),
+        2 => Some(Line::Table(n)),
+        3 => Some(Line::Variables(n)),
+        4 => Some(Line::Objective),
+        5 => Some(Line::Constraint(n)),
+        _ => None,
     }
 }

@@ -1,45 +1,40 @@
-use Rattle.std.proofs.Common.{◌≡◌, true, false, cond, Some, None, sym, ap, ◌∙◌, ap₂}
-use Rattle.model.specs.Evaluation.{then, worked_condition}
-use Rattle.model.specs.Kept.{symbols_in}
+use Rattle.std.proofs.Common.{◌≡◌, Some, sym, refl, ap, ◌∙◌, w64, SFits, rules}
+use Rattle.std.proofs.lemmas.Int.{to_z-of_z}
 use Rattle.model.specs.Meaning.{related}
-use Rattle.model.proofs.Trees.{cond_fit}
+use Rattle.evaluate.proofs.Nodes.{then_none, then_some, cond_none, cond_relate, cond_both}
 use Rattle.evaluate.proofs.conditions.+condition.Goals as goal
 
-pub returns-in-Relate : goal.returns-in-Relate
-unfolding worked_condition
-returns-in-Relate t c = λ d h.
-    let s = symbols_in c.args.words.now in
-    let is = c.args.indexes.now in
-    let (a, b, z, p, q) = cond_fit c.args.words.now c.args.k c.in-Relate.ensures d h in
-    c.compare.ensures ∙ ap₂ (λ x y. then x (λ v. then y (λ w. Some (related c.in-Relate.r v w)))) (c.number.ensures a p) (c.number-in-Relate.ensures b q)
-    ∙ sym (ap (worked_condition s is) z)
+pub returns-in_err-r : goal.returns-in_err-r
+returns-in_err-r t c = cond_none _ _ _ c.in_err-r.ensures
 
-pub returns-then-first : goal.returns-then-first
-unfolding worked_condition
-returns-then-first t c = λ d h.
-    let s = symbols_in c.args.words.now in
-    let is = c.args.indexes.now in
-    let (a, b, z, p, q) = cond_fit c.args.words.now c.args.k c.in-Both.ensures d h in
-    let e : Some true ≡ worked_condition s is a = ap Some (sym c.if-first.true) ∙ c.in-Some.ensures a p in
-    c.condition-then-first.ensures b q ∙ ap (λ o. then o (λ x. cond x (worked_condition s is b) (Some false))) e ∙ sym (ap (worked_condition s is) z)
+pub returns-in_err-left-in-Relate : goal.returns-in_err-left-in-Relate
+returns-in_err-left-in-Relate t c = cond_relate _ _ _ c.in-Relate.r c.in-Relate.i c.in-Relate.j (ap Some (sym c.in-Relate.is) ∙ c.in_ok-r.ensures)
+    (λ e f p q. c.from_residual-in_err-left-in-Relate.ensures ∙ then_none _ (c.in_err-left-in-Relate.ensures e p))
 
-pub returns-else-first : goal.returns-else-first
-unfolding worked_condition
-returns-else-first t c = λ d h.
-    let s = symbols_in c.args.words.now in
-    let is = c.args.indexes.now in
-    let (a, b, z, p, q) = cond_fit c.args.words.now c.args.k c.in-Both.ensures d h in
-    let e : Some false ≡ worked_condition s is a = ap Some (sym c.if-first.false) ∙ c.in-Some.ensures a p in
-    ap (λ o. then o (λ x. cond x (worked_condition s is b) (Some false))) e ∙ sym (ap (worked_condition s is) z)
+pub returns-in_err-right-in-Relate : goal.returns-in_err-right-in-Relate
+returns-in_err-right-in-Relate t c = cond_relate _ _ _ c.in-Relate.r c.in-Relate.i c.in-Relate.j (ap Some (sym c.in-Relate.is) ∙ c.in_ok-r.ensures)
+    (λ e f p q. c.from_residual-in_err-right-in-Relate.ensures ∙ then_some _ c.in_ok-left-in-Relate.left (c.in_ok-left-in-Relate.ensures e p) (then_none _ (c.in_err-right-in-Relate.ensures f q)))
 
-pub returns-in_default : goal.returns-in_default
-unfolding worked_condition
-returns-in_default t c = λ d h.
-    let s = symbols_in c.args.words.now in
-    let is = c.args.indexes.now in
-    let (a, b, z, p, q) = cond_fit c.args.words.now c.args.k c.in-Both.ensures d h in
-    let e : None ≡ worked_condition s is a = c.in_default.ensures a p in
-    ap (λ o. then o (λ x. cond x (worked_condition s is b) (Some false))) e ∙ sym (ap (worked_condition s is) z)
+pub returns-in_ok-right-in-Relate : goal.returns-in_ok-right-in-Relate
+returns-in_ok-right-in-Relate t c =
+    let l : SFits w64 c.in_ok-left-in-Relate.left = search rules in
+    let r : SFits w64 c.in_ok-right-in-Relate.right = search rules in
+    let e : c.holds.result ≡ related c.in-Relate.r c.in_ok-left-in-Relate.left c.in_ok-right-in-Relate.right = simp to_z-of_z at c.holds.ensures in
+    cond_relate _ _ _ c.in-Relate.r c.in-Relate.i c.in-Relate.j (ap Some (sym c.in-Relate.is) ∙ c.in_ok-r.ensures)
+    (λ a b p q. then_some _ c.in_ok-left-in-Relate.left (c.in_ok-left-in-Relate.ensures a p) (then_some _ c.in_ok-right-in-Relate.right (c.in_ok-right-in-Relate.ensures b q) (ap Some e)))
 
-pub returns-in-Bad : goal.returns-in-Bad
-returns-in-Bad t c = λ d h. absurd (cond_fit c.args.words.now c.args.k c.in-Bad.ensures d h)
+pub returns-in_err-condition-in-Both : goal.returns-in_err-condition-in-Both
+returns-in_err-condition-in-Both t c = cond_both _ _ _ c.in-Both.i c.in-Both.j (ap Some (sym c.in-Both.is) ∙ c.in_ok-r.ensures)
+    (λ d e p q. c.from_residual-in_err-condition-in-Both.ensures ∙ then_none _ (c.in_err-condition-in-Both.ensures d p))
+
+pub returns-in_ok-condition-in-Both-2 : goal.returns-in_ok-condition-in-Both-2
+returns-in_ok-condition-in-Both-2 t c = cond_both _ _ _ c.in-Both.i c.in-Both.j (ap Some (sym c.in-Both.is) ∙ c.in_ok-r.ensures)
+    (λ d e p q. then_some _ c.in_ok-condition-in-Both.field-0 (c.in_ok-condition-in-Both.ensures d p) (rw c.if-branch.true (c.in_ok-condition-in-Both-2.ensures e q)))
+
+pub returns-in_err-condition-in-Both-2 : goal.returns-in_err-condition-in-Both-2
+returns-in_err-condition-in-Both-2 t c = cond_both _ _ _ c.in-Both.i c.in-Both.j (ap Some (sym c.in-Both.is) ∙ c.in_ok-r.ensures)
+    (λ d e p q. then_some _ c.in_ok-condition-in-Both.field-0 (c.in_ok-condition-in-Both.ensures d p) (rw c.if-branch.true (c.from_residual-in_err-condition-in-Both-2.ensures ∙ c.in_err-condition-in-Both-2.ensures e q)))
+
+pub returns-else-branch : goal.returns-else-branch
+returns-else-branch t c = cond_both _ _ _ c.in-Both.i c.in-Both.j (ap Some (sym c.in-Both.is) ∙ c.in_ok-r.ensures)
+    (λ d e p q. then_some _ c.in_ok-condition-in-Both.field-0 (c.in_ok-condition-in-Both.ensures d p) (rw c.if-branch.false refl))
