@@ -33,7 +33,7 @@ pub enum Symbol {
 }
 
 // A name, by its place in the text, and what it stands for.
-#[derive(Clone, Copy)]
+#[derive(Clone, Copy, Debug, PartialEq)]
 pub struct Entry {
     pub name: Name,
     pub symbol: Symbol,
