@@ -1,12 +1,11 @@
 -- The names that a scope has, as reading takes them: the newest first. Assumes nothing.
-use Rattle.std.specs.Prelude.{ℕ, zero, suc, ◌-◌, List, [], ◌∷◌, take, drop, Some, None, Option, slice_index_or}
+use Rattle.std.specs.Prelude.{ℕ, ◌-◌, List, map, take, drop, Some, None, Option}
 use Rattle.compose.specs.declared.Name.{Name}
 use Rattle.grammar.specs.Grammar.{Word}
 use Rattle.grammar.specs.Reading.{Sort, a_set, a_table, an_array, an_index, Named, Names}
 use Rattle.scope.specs.declared.Symbol.{Symbol}
 use Rattle.scope.specs.declared.Symbol.TheVariants.{Set, Table, Array, Index}
-use Rattle.scope.specs.declared.scopes.Entry.{Entry}
-use Rattle.scope.specs.declared.scopes.Scope.{Scope}
+use Rattle.scope.specs.declared.Entry.{Entry}
 
 abbrev pub part : List ℕ → Name → Word
 part x n = take (n.end - n.begin) (drop n.begin x)
@@ -24,13 +23,5 @@ sort_told (Some s) = Some (sort_of s)
 abbrev pub named : List ℕ → Entry → Named
 named x e = record { word = part x e.name; sort = sort_of e.symbol }
 
-abbrev pub no_entry : Entry
-no_entry = record { name = record { begin = 0; end = 0 }; symbol = Set 0 }
-
--- of the first n entries
-unfoldable pub names_of : List ℕ → List Entry → ℕ → Names
-names_of x es zero = []
-names_of x es (suc n) = named x (slice_index_or es n no_entry) ∷ names_of x es n
-
-abbrev pub names_in : List ℕ → Scope → Names
-names_in x s = names_of x s.entries s.count
+abbrev pub names_in : List ℕ → List Entry → Names
+names_in x es = map (named x) es

@@ -1,13 +1,14 @@
 -- The ends of a number, as the code finds them, and its size. Assumes nothing.
-use Rattle.std.proofs.Common.{◌≡◌, ℕ, ◌+◌, ◌-◌, ◌*◌, ◌<◌, ◌≤◌, min, Bool, true, false, cond, eqb, leb, List, ◌∷◌, map, length, pos, neg_ℤ, refl, ap, ◌∙◌, ⊎_elim, arith}
+use Rattle.std.proofs.Common.{◌≡◌, ℕ, ◌+◌, ◌-◌, ◌*◌, ◌<◌, ◌≤◌, min, true, false, cond, eqb, leb, List, ◌∷◌, map, length, pos, neg_ℤ, refl, ap, ◌∙◌, ⊎_elim, arith}
 use Rattle.std.proofs.lemmas.Int.Digits.{number_after_ge}
 use Rattle.std.proofs.lemmas.Bool.{cond-true, cond-false, cases_lt, eq-eqb, ne_eqb, and_parts, and_from, leb-true, le-leb}
 use Rattle.grammar.specs.declared.Refusal.TheVariants.{Syntax, Range}
 use Rattle.grammar.specs.Grammar.{is_digit, is_top, Numeral, nought, whole, minus}
 use Rattle.grammar.specs.Reading.{ok, bad, byte, in_length, digits_at, size, value, numeral}
 use Rattle.grammar.proofs.Bytes.{top_other}
-use Rattle.tokens.specs.declared.Number.{Number}
-use Rattle.tokens.specs.Sizes.{is_minus, Counts, value_of, signed, capped}
+use Rattle.tokens.proofs.Steps.{inside, told_on}
+use Rattle.tokens.specs.declared.numbers.Number.{Number}
+use Rattle.tokens.specs.Sizes.{told_value, Counts, capped}
 
 pub capped_more : (n m c : ℕ) (ds : List ℕ) → m ≡ min (n * 10 + (c - 48)) 1000001 → capped m ds ≡ capped n (c ∷ ds)
 capped_more n m c ds e =
@@ -20,17 +21,9 @@ capped_more n m c ds e =
     omega arith)
     (cases_lt a 1000001)
 
-pub signed_size : (b : Bool) (d : ℕ) (ds : List ℕ) → capped 0 (d ∷ ds) ≡ min 1000001 (size (signed b d ds))
-signed_size true d ds = refl
-signed_size false d ds = refl
-
-pub signed_minus : (b : Bool) (d : ℕ) (ds : List ℕ) → b ≡ is_minus (signed b d ds)
-signed_minus true d ds = refl
-signed_minus false d ds = refl
-
 -- what begins a place further on
 pub counts_on : (x : List ℕ) (at : ℕ) → (at ≡ 65536 → ⊥) → (n : Numeral) (p : Number) → Counts x (at + 1) n p → Counts x at n p
-counts_on x at m n p t = (omega arith, t.1, t.2, t.3, λ l. t.4 (omega arith))
+counts_on x at m n p t = (omega arith, t.1, t.2, λ l. t.3 (omega arith))
 
 -- DIGITS
 
@@ -40,11 +33,11 @@ top_digit c e =
     let l = leb-true 49 c p.0 in
     and_from (leb 48 c) (leb c 57) (le-leb 48 c (omega arith)) p.1
 
--- a number that was told, in range
-pub value_told : (n : Numeral) (p : Number) → p.size ≡ min 1000001 (size n) → p.negative ≡ is_minus n → p.size ≤ 1000000 → value_of p ≡ value n
-value_told nought p e f l = ap (λ b. cond b (neg_ℤ (pos p.size)) (pos p.size)) f ∙ ap pos e
-value_told (whole d ds) p e f l = let z : p.size ≡ size (whole d ds) = omega arith in ap (λ b. cond b (neg_ℤ (pos p.size)) (pos p.size)) f ∙ ap pos z
-value_told (minus d ds) p e f l = let z : p.size ≡ size (minus d ds) = omega arith in ap (λ b. cond b (neg_ℤ (pos p.size)) (pos p.size)) f ∙ ap (λ s. neg_ℤ (pos s)) z
+-- a number in range is told as it is
+pub value_told : (n : Numeral) → size n ≤ 1000000 → told_value n ≡ value n
+value_told nought l = refl
+value_told (whole d ds) l = let z : min 1000001 (size (whole d ds)) ≡ size (whole d ds) = omega arith in ap pos z
+value_told (minus d ds) l = let z : min 1000001 (size (minus d ds)) ≡ size (minus d ds) = omega arith in ap (λ s. neg_ℤ (pos s)) z
 
 -- NUMERALS by how they begin
 
@@ -90,3 +83,9 @@ module _ (x : List ℕ) (at : ℕ) where
   unfolding numeral
   numeral_none n e m =
       cond-false (eqb (byte x at) 48) _ _ (ne_eqb (byte x at) 48 n) ∙ cond-false (is_top (byte x at)) _ _ e ∙ cond-false (eqb (byte x at) 45) _ _ (ne_eqb (byte x at) 45 m)
+
+pub ruleset noughts = (nought_past, nought_more, nought_alone, inside)
+
+pub ruleset numerals = (numeral_whole, numeral_none, told_on)
+
+pub ruleset minuses = (minus_past, minus_alone, minus_more, inside)

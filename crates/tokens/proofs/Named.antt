@@ -9,10 +9,10 @@ use Rattle.grammar.specs.declared.Refusal.TheVariants.{Syntax, Range}
 use Rattle.grammar.specs.Grammar.{is_digit, is_letter, is_word, member, reserved}
 use Rattle.grammar.specs.Reading.{ok, bad, then, byte, front, run_at, word, name}
 use Rattle.grammar.proofs.Places.{front_is}
-use Rattle.tokens.specs.declared.Reserved.{Reserved}
-use Rattle.tokens.specs.declared.Reserved.TheVariants.{Set, Table, Unknown, Least, Wish, From, To, Where, Sum, All, And, Or, Then}
+use Rattle.tokens.specs.declared.words.Reserved.{Reserved}
+use Rattle.tokens.specs.declared.words.Reserved.TheVariants.{Set, Table, Unknown, Least, Wish, From, To, Where, Sum, All, And, Or, Then}
 use Rattle.tokens.specs.Spelling.{spelled, Spells}
-use Rattle.tokens.proofs.Steps.{in_length_in, in_length_past}
+use Rattle.tokens.proofs.Steps.{in_length_in, in_length_past, told_exit}
 
 -- RESERVED WORDS
 
@@ -118,3 +118,5 @@ pub name_free : (x w v : List ℕ) (at e : ℕ) → word x at ≡ ok w e → w �
 unfolding name then
 name_free x w v at e h i m =
     ap (λ o. then o (λ w e. cond (member w reserved) (bad (Syntax e)) (ok w e))) h ∙ cond-false (member w reserved) _ _ (ap (λ u. member u reserved) i ∙ m)
+
+pub ruleset names = (spells_member, name_bad, name_taken, name_free, told_exit)

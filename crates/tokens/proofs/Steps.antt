@@ -74,3 +74,18 @@ in_length_in a e l = cond-false (ltb 65536 e) _ _ (le-ltb 65536 e l)
 
 pub in_length_past : {A : Type 0} (a : A) (e : ℕ) → 65536 < e → in_length a e ≡ bad (Range 65536)
 in_length_past a e l = cond-true (ltb 65536 e) _ _ (lt-ltb 65536 e l)
+
+-- whether a token is in length does not hang on what it is
+pub in_length_like : {A : Type 0} (a b c : A) (e m : ℕ) → in_length a e ≡ ok c m → (c ≡ a) × (m ≡ e) × (in_length b e ≡ ok b m)
+in_length_like a b c e m h = ⊎_elim
+    (λ (l : 65536 < e). let z = in_length_past a e l in (cc, cc, cc))
+    (λ (l : e ≤ 65536). let z = in_length_in a e l in let y = in_length_in b e l in (cc, cc, cc))
+    (cases_lt 65536 e)
+
+pub in_length_like_bad : {A : Type 0} (a b : A) (e : ℕ) (q : Refusal) → in_length a e ≡ bad q → in_length b e ≡ bad q
+in_length_like_bad a b e q h = ⊎_elim
+    (λ (l : 65536 < e). in_length_past b e l ∙ sym (in_length_past a e l) ∙ h)
+    (λ (l : e ≤ 65536). let z = in_length_in a e l in cc)
+    (cases_lt 65536 e)
+
+pub ruleset literals = (literal_same, literal_past, literal_other, literal_end, inside)

@@ -1,7 +1,7 @@
 -- How the reserved words are spelled. Assumes nothing.
 use Rattle.std.specs.Prelude.{◌≡◌, ℕ, List, Some, None, codes, Option, ◌≢◌}
-use Rattle.tokens.specs.declared.Reserved.{Reserved}
-use Rattle.tokens.specs.declared.Reserved.TheVariants.{Set, Table, Unknown, Least, Wish, From, To, Where, Sum, All, And, Or, Then}
+use Rattle.tokens.specs.declared.words.Reserved.{Reserved}
+use Rattle.tokens.specs.declared.words.Reserved.TheVariants.{Set, Table, Unknown, Least, Wish, From, To, Where, Sum, All, And, Or, Then}
 
 abbrev pub spelled : Reserved → List ℕ
 spelled Set = codes "set"
