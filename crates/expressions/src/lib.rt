@@ -11,20 +11,19 @@
 // runs out, and no function on the way has to ask for it.
 #![tactic(auto)]
 
-pub mod conditions;
-pub mod finding;
+
+mod context;
 pub mod nodes;
-pub mod numbers;
-pub mod rows;
-pub mod sums;
-pub mod terms;
+
+
+
+
 
 use compose::Name;
-use model::{Comparison, Relation, Sign};
 
 // What was read and written: the place of its node, the first word behind its words, and where it
 // ends in the text.
-#[derive(Clone, Copy)]
+#[derive(Clone, Copy, Debug, PartialEq)]
 pub struct Node {
     pub place: usize,
     pub next: usize,
@@ -32,7 +31,7 @@ pub struct Node {
 }
 
 // What stood in square brackets: the nodes of the row and of the column.
-#[derive(Clone, Copy)]
+#[derive(Clone, Copy, Debug, PartialEq)]
 pub struct Places {
     pub row: usize,
     pub column: usize,
@@ -40,22 +39,22 @@ pub struct Places {
     pub end: usize,
 }
 
-// A relation and where it ends.
-#[derive(Clone, Copy)]
-pub struct RelationAt {
-    pub relation: Relation,
+// A relation, a comparison or a sign, and where it ends.
+#[derive(Clone, Copy, Debug, PartialEq)]
+pub struct At<T> {
+    pub value: T,
     pub end: usize,
 }
 
 // What a sum or an all goes through: the set's number, and where the index's name stands.
-#[derive(Clone, Copy)]
+#[derive(Clone, Copy, Debug, PartialEq)]
 pub struct Bound {
     pub set: usize,
     pub index: Name,
 }
 
 // The condition of a sum or an all, if there is one.
-#[derive(Clone, Copy)]
+#[derive(Clone, Copy, Debug, PartialEq)]
 pub struct Filter {
     pub condition: Option<usize>,
     pub next: usize,
@@ -64,22 +63,17 @@ pub struct Filter {
 
 // A term, and whether a space follows it, which then belongs to it: what the space begins is not
 // known before the byte behind it.
-#[derive(Clone, Copy)]
+// A flag, since the term is there with a space and without.
+#[derive(Clone, Copy, Debug, PartialEq)]
 pub struct TermAt {
     pub node: Node,
     pub spaced: bool,
 }
 
-// A sign between two terms, and where the next term begins.
-#[derive(Clone, Copy)]
-pub struct SignAt {
-    pub sign: Sign,
-    pub end: usize,
-}
-
 // Terms with signs between them: how far up they wait, the first free word, where they end, and
 // whether a space stood behind the last.
-#[derive(Clone, Copy)]
+// A flag, as in a term.
+#[derive(Clone, Copy, Debug, PartialEq)]
 pub struct Run {
     pub top: usize,
     pub next: usize,
@@ -88,23 +82,15 @@ pub struct Run {
 }
 
 // The sum that waiting terms were chained to: the place of its first node, and the first free word.
-#[derive(Clone, Copy)]
+#[derive(Clone, Copy, Debug, PartialEq)]
 pub struct Chain {
     pub place: usize,
     pub next: usize,
 }
 
-// What a word begins where a term stands: a sum over a set, a name, or nothing.
-#[derive(Clone, Copy)]
+// What a word begins where a term stands: a sum over a set, or a name.
+#[derive(Clone, Copy, Debug, PartialEq)]
 pub enum Lead {
     Sum,
     Name,
-    Neither,
-}
-
-// A comparison and where it ends.
-#[derive(Clone, Copy)]
-pub struct ComparisonAt {
-    pub comparison: Comparison,
-    pub end: usize,
 }
