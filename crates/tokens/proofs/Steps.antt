@@ -26,6 +26,9 @@ pub then_bad : {A B : Type 0} {o : Got A} {q : Refusal} (g : A → ℕ → Got B
 unfolding then
 then_bad g h = ap (λ o. then o g) h
 
+-- parts read one after another, each with a `?`
+pub ruleset steps = (told_exit, then_ok, then_bad)
+
 -- LITERALS
 
 pub literal_same : (x w : List ℕ) (i at : ℕ) → i < length w → byte x at ≡ get_or w i 0 → (at ≡ 65536 → ⊥) → literal x (drop i w) at ≡ literal x (drop (i + 1) w) (at + 1)
