@@ -8,6 +8,7 @@ use Rattle.scope.specs.declared.Symbol.{Symbol}
 use Rattle.scope.specs.Names.{sort_told}
 use Rattle.tokens.specs.declared.numbers.Number.{Number}
 use Rattle.tokens.specs.Told.{Part, Stood}
+use Rattle.tokens.proofs.Steps.{steps}
 use Rattle.reader.specs.declared.SizeAt.{SizeAt}
 use Rattle.reader.specs.declared.Shape.{Shape}
 use Rattle.reader.specs.Lines.{Ends, NameRead, NumberRead, SizeRead, SetRead, ShapeRead, ArrayRead}
@@ -36,6 +37,8 @@ free_told o v w ns b e f g = ap (λ u. free u ns) e ∙ ap (λ r. not (is_some r
 
 pub name_made : (x : List ℕ) (at e : ℕ) (w : Word) → Part x at w e → NameRead x at w (record { begin = at; end = e })
 name_made x at e w p = record { begin = refl; word = p.2; ends = record { onward = omega arith; inside = p.1; short = p.3 } }
+
+pub ruleset new_names = (steps, free_told, name_made)
 
 -- LINES
 

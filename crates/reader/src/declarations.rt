@@ -44,7 +44,7 @@ pub(crate) fn opening(
 }
 
 // A name that is not in force.
-#[tactic(auto, using(tokens::proofs::Steps::steps, crate::proofs::Told::free_told, crate::proofs::Told::name_made), unfolding(crate::specs::Numbers::new_name))]
+#[tactic(auto, using(crate::proofs::Told::new_names), unfolding(crate::specs::Numbers::new_name))]
 pub(crate) fn new_name(text: &[u8], scope: &Scope, at: usize) -> Result<Name, Refusal>
     ensures told { Told (λ p. p.end) (NameRead text.now at) (new_name text.now (names_in text.now scope.now) at) result }
 {
@@ -57,7 +57,7 @@ pub(crate) fn new_name(text: &[u8], scope: &Scope, at: usize) -> Result<Name, Re
 }
 
 // A set: its name and its size.
-#[tactic(auto, using(tokens::proofs::Steps::steps, crate::proofs::Parts::set_is, crate::proofs::Told::set_made))]
+#[tactic(auto, using(tokens::proofs::Steps::steps, crate::proofs::Parts::set_is))]
 pub(crate) fn set_line(
     text: &[u8],
     scope: &Scope,
@@ -79,7 +79,7 @@ pub(crate) fn set_line(
 }
 
 // What tables and variable arrays begin with: a name, rows and columns.
-#[tactic(auto, using(tokens::proofs::Steps::steps, crate::proofs::Parts::shape_is, crate::proofs::Told::shape_made))]
+#[tactic(auto, using(tokens::proofs::Steps::steps, crate::proofs::Parts::shape_is))]
 pub(crate) fn shape(text: &[u8], scope: &Scope, line: usize, at: usize) -> Result<Shape, Refusal>
     ensures told { Told (λ p. p.end) (ShapeRead text.now at) (shape_at text.now (names_in text.now scope.now) line at) result }
 {
@@ -95,7 +95,7 @@ pub(crate) fn shape(text: &[u8], scope: &Scope, line: usize, at: usize) -> Resul
 }
 
 // A variable array: its shape, and the bounds of its variables.
-#[tactic(auto, using(tokens::proofs::Steps::steps, crate::proofs::Parts::array_is, crate::proofs::Told::array_made, crate::proofs::Ranges::in_order, crate::proofs::Ranges::not_in_order))]
+#[tactic(auto, using(tokens::proofs::Steps::steps, crate::proofs::Parts::array_is))]
 pub(crate) fn array_line(
     text: &[u8],
     scope: &Scope,
