@@ -1,6 +1,6 @@
 -- The numbers of a table, one after another. Assumes nothing.
-use Rattle.std.proofs.Common.{◌≡◌, ℕ, zero, suc, ◌+◌, ◌-◌, ◌*◌, ◌<◌, ◌≤◌, cond, eqb, leb, List, [], ◌∷◌, ◌++◌, map, length, ℤ, IfSome, Some, None, codes, Option, sym, refl, ap, ◌∙◌, subst, ap₂, append_assoc, append-nil, arith, length-append, w64, to_z}
-use native.Mathlib.Nat.{one-le-mul}
+use Rattle.std.proofs.Common.{true, false, ◌≡◌, ℕ, zero, suc, ◌+◌, ◌-◌, ◌*◌, ◌<◌, ◌≤◌, cond, eqb, leb, List, [], ◌∷◌, ◌++◌, map, length, ℤ, OnSome, ◌&&◌, Some, None, codes, Option, sym, refl, ap, ◌∙◌, subst, ap₂, append_assoc, append-nil, add-one, arith, length-append, w64, to_z}
+use native.Mathlib.Nat.{one-le-mul, sub-zero}
 use Rattle.std.proofs.lemmas.List.{map-append}
 use Rattle.std.proofs.lemmas.Bool.{cond-true, cond-false, eq-eqb, ne_eqb, and_from, le-leb}
 use Rattle.compose.specs.Agree.{Agree}
@@ -13,11 +13,12 @@ use Rattle.grammar.specs.Reading as reading
 use Rattle.grammar.specs.Reading.{Got, ok, bad, then, byte, literal, size, value, numerals}
 use Rattle.model.specs.Kept.{listed}
 use Rattle.model.specs.Words.{word}
+use Rattle.tokens.specs.Told.{Stood}
 use Rattle.tokens.proofs.Steps.{then_ok, then_bad}
-use Rattle.reader.specs.declared.Value.{Value}
+use Rattle.tokens.specs.declared.numbers.Number.{Number}
 use Rattle.reader.specs.declared.Shape.{Shape}
 use Rattle.reader.specs.declared.TableLine.{TableLine}
-use Rattle.reader.specs.Lines.{Ends, Stood, NumberRead, ShapeRead, numbers_in, NumbersRead, TableRead}
+use Rattle.reader.specs.Lines.{Ends, NumberRead, ShapeRead, numbers_in, NumbersRead, TableRead}
 use Rattle.reader.specs.Numbers.{number_at}
 use Rattle.reader.proofs.Parts.{small_part}
 use Rattle.reader.proofs.Told.{ends_on, ends_after}
@@ -43,10 +44,10 @@ unfolding listed
 numbers_push ws vs free n z a e = ap₂ (λ xs y. xs ++ (y ∷ [])) (numbers_agree ws vs free n a) e
 
 -- what a write that has room does
-pub put_done : {P : Type 0} (r : Option ℕ) (len k next : ℕ) → r ≡ cond (room len k) (Some (k + 1)) None → 1808 ≤ k → k + 5 ≤ len → IfSome r (λ _. P) → r ≡ Some next → (next ≡ k + 1) × P
-put_done {P = P} r len k next e l m h n =
+pub put_done : {P : Type 0} (r : Option ℕ) (len k : ℕ) → r ≡ cond (true && room len k) (Some (k + 1)) None → 1808 ≤ k → k + 5 ≤ len → OnSome r P → (r ≡ Some (k + 1)) × P
+put_done {P = P} r len k e l m h =
     let s : r ≡ Some (k + 1) = e ∙ cond-true (room len k) _ _ (and_from (leb 1808 k) (leb (k + 5) len) (le-leb 1808 k l) (le-leb (k + 5) len m)) in
-    (cc, subst (λ (o : Option ℕ). IfSome o (λ _. P)) n h)
+    (s, subst (λ (o : Option ℕ). OnSome o P) s h)
 
 -- READING one number
 
@@ -72,15 +73,12 @@ module _ (x : List ℕ) (line at : ℕ) where
   unfolding numerals
   all_read left z e = ap (λ n. numerals x line n at) z ∙ cond-false (eqb (byte x at) 44) _ _ (ne_eqb (byte x at) 44 e)
 
-  no_comma : (left : ℕ) → (left ≡ 0 → ⊥) → (byte x at ≡ 44 → ⊥) → numerals x line left at ≡ cond (eqb (byte x at) 10) (bad (Range line)) (bad (Syntax at))
+  pub no_comma : (left : ℕ) → (left ≡ 0 → ⊥) → (byte x at ≡ 44 → ⊥) → numerals x line left at ≡ bad (cond (eqb (byte x at) 10) (Range line) (Syntax at))
   unfolding numerals
-  no_comma left z e = let s : left ≡ suc (left - 1) = omega arith in ap (λ n. numerals x line n at) s ∙ cond-false (eqb (byte x at) 44) _ _ (ne_eqb (byte x at) 44 e)
-
-  pub too_few : (left : ℕ) → (left ≡ 0 → ⊥) → byte x at ≡ 10 → numerals x line left at ≡ bad (Range line)
-  too_few left z e = no_comma left z (λ f. omega arith) ∙ cond-true (eqb (byte x at) 10) _ _ (eq-eqb (byte x at) 10 e)
-
-  pub broken_off : (left : ℕ) → (left ≡ 0 → ⊥) → (byte x at ≡ 44 → ⊥) → (byte x at ≡ 10 → ⊥) → numerals x line left at ≡ bad (Syntax at)
-  broken_off left z e f = no_comma left z e ∙ cond-false (eqb (byte x at) 10) _ _ (ne_eqb (byte x at) 10 f)
+  no_comma left z e =
+      let s : left ≡ suc (left - 1) = omega arith in
+      ap (λ n. numerals x line n at) s ∙ cond-false (eqb (byte x at) 44) _ _ (ne_eqb (byte x at) 44 e)
+      ∙ elim (eqb (byte x at) 10) as (λ b. cond {A = Got (List Numeral)} b (bad (Range line)) (bad (Syntax at)) ≡ bad (cond b (Range line) (Syntax at))) [ true ↦ refl | false ↦ refl ]
 
 -- READING SO FAR
 
@@ -98,58 +96,51 @@ unfolding then
 before_push ms n (ok ns e) = ap (λ k. ok k e) (sym (append_assoc ms (n ∷ []) ns))
 before_push ms n (bad q) = refl
 
--- `left` numbers are still wanted at `here`, those read before stand in vs up to place `next`, and the words below `free` are as in ws
-pub record SoFar (x ws : List ℕ) (line free wanted at : ℕ) (vs : List ℕ) (next left here : ℕ) : Type 0 where
+-- i numbers were read up to `here`, they stand in vs, and the words below `free` are as in ws
+pub record SoFar (x ws : List ℕ) (line free wanted at : ℕ) (vs : List ℕ) (i here : ℕ) : Type 0 where
   pub read : List Numeral
-  pub rest : numerals x line wanted at ≡ before read (numerals x line left here)
-  pub numbers : numbers_in vs free (length read) ≡ map value read
-  pub place : next ≡ free + length read
-  pub count : left + length read ≡ wanted
-  pub ends : Ends x (3 * length read) at here
+  pub many : length read ≡ i
+  pub rest : numerals x line wanted at ≡ before read (numerals x line (wanted - i) here)
+  pub numbers : numbers_in vs free i ≡ map value read
+  pub ends : Ends x (3 * i) at here
   pub below : Agree 0 free ws vs
 
-pub so_far_none : (x ws : List ℕ) (line free wanted at : ℕ) → at ≤ length x → SoFar x ws line free wanted at ws free wanted at
+pub so_far_none : (x ws : List ℕ) (line free wanted at : ℕ) → at ≤ length x → SoFar x ws line free wanted at ws 0 at
 unfolding listed
 so_far_none x ws line free wanted at l = record {
   read = [];
-  rest = before_none (numerals x line wanted at);
+  many = refl;
+  rest = rw sub-zero (before_none (numerals x line wanted at));
   numbers = refl;
-  place = omega arith;
-  count = omega arith;
   ends = record { onward = omega arith; inside = l; short = λ m. m };
   below = agree_self 0 free ws;
 }
 
-module _ {x ws : List ℕ} {line free wanted at : ℕ} {vs : List ℕ} {next left here : ℕ} (s : SoFar x ws line free wanted at vs next left here) where
-  pub so_far_room : at ≤ 65536 → 3 * free + (65536 - at) + 15 ≤ 3 * length ws → next + 5 ≤ length vs
+module _ {x ws : List ℕ} {line free wanted at : ℕ} {vs : List ℕ} {i here : ℕ} (s : SoFar x ws line free wanted at vs i here) where
+  pub so_far_room : at ≤ 65536 → 3 * free + (65536 - at) + 15 ≤ 3 * length ws → free + i + 5 ≤ length vs
   so_far_room l r = let h = s.ends.short l in omega arith
 
-  pub so_far_bad : (q : Refusal) → numerals x line left here ≡ bad q → numerals x line wanted at ≡ bad q
+  pub so_far_bad : (q : Refusal) → numerals x line (wanted - i) here ≡ bad q → numerals x line wanted at ≡ bad q
   so_far_bad q h = s.rest ∙ then_bad _ h
 
-  pub so_far_done : left ≡ 0 → (byte x here ≡ 44 → ⊥) → (ns : List Numeral) × (numerals x line wanted at ≡ ok ns here) × NumbersRead x vs free wanted at ns here
-  so_far_done z e =
-      let w : length s.read ≡ wanted = omega arith in (
-        s.read,
-        s.rest ∙ then_ok _ (all_read x line here left z e) ∙ ap (λ k. ok k here) (append-nil s.read),
-        record { numbers = ap (numbers_in vs free) (sym w) ∙ s.numbers; ends = subst (λ (n : ℕ). Ends x (3 * n) at here) w s.ends },
-      )
+  pub so_far_done : i ≡ wanted → (byte x here ≡ 44 → ⊥) → (ns : List Numeral) × (numerals x line wanted at ≡ ok ns here) × NumbersRead x vs free wanted at ns here
+  so_far_done w e = (
+    s.read,
+    s.rest ∙ then_ok _ (all_read x line here (wanted - i) (omega arith) e) ∙ ap (λ k. ok k here) (append-nil s.read),
+    record { numbers = ap (numbers_in vs free) (sym w) ∙ s.numbers; ends = subst (λ (n : ℕ). Ends x (3 * n) at here) w s.ends },
+  )
 
-  pub so_far_more : (us : List ℕ) (b next' : ℕ) (n : Numeral) (q : Value) → byte x here ≡ 44 → (left ≡ 0 → ⊥) → literal x (codes ", ") here ≡ ok tt b → Stood x 2 here b
-      → number_at x 999999 b ≡ ok n q.end → NumberRead x 999999 b n q → Agree 0 next vs us → next' ≡ next + 1 → to_z w64 (word us next) ≡ q.value
-      → SoFar x ws line free wanted at us next' (left - 1) q.end
-  so_far_more us b next' n q e z h t i p a f y =
-      let long = length-append s.read (n ∷ []) in
-      let l : length (s.read ++ (n ∷ [])) ≡ suc (length s.read) = omega arith in
-      let c : Agree 0 (free + length s.read) vs us = subst (λ (k : ℕ). Agree 0 k vs us) s.place a in
-      let v : to_z w64 (word us (free + length s.read)) ≡ value n = ap (λ k. to_z w64 (word us k)) (sym s.place) ∙ y ∙ p.value in
-      let d = ends_on x (3 * length s.read) 3 at here q.end s.ends (ends_after x 2 1 here b q.end t p.ends) in
+  pub so_far_more : (us : List ℕ) (b : ℕ) (n : Numeral) (q : Number) → byte x here ≡ 44 → i < wanted → literal x (codes ", ") here ≡ ok tt b → Stood x 2 here b → number_at x 999999 b ≡ ok n q.end
+      → NumberRead x 999999 b n q → Agree 0 (free + i) vs us → to_z w64 (word us (free + i)) ≡ q.value
+      → SoFar x ws line free wanted at us (i + 1) q.end
+  so_far_more us b n q e z h t j p a y =
+      let d = ends_on x (3 * i) 3 at here q.end s.ends (ends_after x 2 1 here b q.end t p.ends) in
+      let l = length-append s.read (n ∷ []) in
       record {
         read = s.read ++ (n ∷ []);
-        rest = s.rest ∙ ap (before s.read) (next_number x line here left (left - 1) b (omega arith) e h ∙ then_ok _ i) ∙ before_push s.read n (numerals x line (left - 1) q.end);
-        numbers = ap (numbers_in us free) l ∙ numbers_push vs us free (length s.read) (value n) c v ∙ ap (λ k. k ++ (value n ∷ [])) s.numbers ∙ sym (map-append value s.read (n ∷ []));
-        place = omega arith;
-        count = omega arith;
+        many = omega (arith, s.many);
+        rest = s.rest ∙ ap (before s.read) (next_number x line here (wanted - i) (wanted - (i + 1)) b (omega arith) e h ∙ then_ok _ j) ∙ before_push s.read n (numerals x line (wanted - (i + 1)) q.end);
+        numbers = ap (numbers_in us free) (add-one i) ∙ numbers_push vs us free i (value n) a (y ∙ p.value) ∙ ap (λ k. k ++ (value n ∷ [])) s.numbers ∙ sym (map-append value s.read (n ∷ []));
         ends = record { onward = omega arith; inside = d.inside; short = d.short };
         below = agree_on s.below (agree_part 0 free (omega arith) (omega arith) a);
       }
@@ -173,7 +164,7 @@ module _ {x : List ℕ} {b : ℕ} {s : reading.Shape} {p : Shape} (h : ShapeRead
   others_are line at = ap (λ n. numerals x line (n - 1) at) entries
 
   -- the first number stands in us, and the others in vs
-  pub table_made : (at d k e : ℕ) (n : Numeral) (ns : List Numeral) (q : Value) (free others : ℕ) (us vs : List ℕ) → Stood x 6 at b → Stood x 2 p.end d → NumberRead x 999999 d n q
+  pub table_made : (at d k e : ℕ) (n : Numeral) (ns : List Numeral) (q : Number) (free others : ℕ) (us vs : List ℕ) → Stood x 6 at b → Stood x 2 p.end d → NumberRead x 999999 d n q
       → others ≡ free + 1 → to_z w64 (word us free) ≡ q.value → Agree 0 others us vs → NumbersRead x vs others (p.rows * p.columns - 1) q.end ns k → Stood x 1 k e
       → TableRead x vs free at (table_line s.name s.rows s.columns n ns) (record { shape = p; next = others + (p.rows * p.columns - 1); end = e })
   table_made at d k e n ns q free others us vs t u i f v a j w =

@@ -8,8 +8,8 @@ use Rattle.grammar.specs.Reading as reading
 use Rattle.model.specs.Kept.{listed}
 use Rattle.model.specs.Words.{word}
 use Rattle.scope.specs.Names.{part}
-use Rattle.tokens.specs.declared.Number.{Number}
-use Rattle.reader.specs.declared.Value.{Value}
+use Rattle.tokens.specs.declared.numbers.Number.{Number}
+use Rattle.reader.specs.declared.SizeAt.{SizeAt}
 use Rattle.reader.specs.declared.SetLine.{SetLine}
 use Rattle.reader.specs.declared.Shape.{Shape}
 use Rattle.reader.specs.declared.ArrayLine.{ArrayLine}
@@ -21,21 +21,17 @@ pub record Ends (x : List ℕ) (long at e : ℕ) : Type 0 where
   pub inside : e ≤ length x
   pub short : at ≤ 65536 → e ≤ 65536
 
--- k fixed bytes from a place on end at e
-abbrev pub Stood : List ℕ → ℕ → ℕ → ℕ → Type 0
-Stood x k at e = (e ≡ at + k) × (at ≤ length x → e ≤ length x) × (at ≤ 65536 → e ≤ 65536)
-
 pub record NameRead (x : List ℕ) (at : ℕ) (w : Word) (p : Name) : Type 0 where
   pub begin : p.begin ≡ at
   pub word : w ≡ part x p
   pub ends : Ends x 1 at p.end
 
-pub record NumberRead (x : List ℕ) (limit at : ℕ) (n : Numeral) (p : Value) : Type 0 where
+pub record NumberRead (x : List ℕ) (limit at : ℕ) (n : Numeral) (p : Number) : Type 0 where
   pub value : p.value ≡ reading.value n
   pub most : reading.size n ≤ limit
   pub ends : Ends x 1 at p.end
 
-pub record SizeRead (x : List ℕ) (lowest at : ℕ) (n : Numeral) (p : Number) : Type 0 where
+pub record SizeRead (x : List ℕ) (lowest at : ℕ) (n : Numeral) (p : SizeAt) : Type 0 where
   pub size : p.size ≡ reading.size n
   pub least : lowest ≤ p.size
   pub most : p.size ≤ 1000

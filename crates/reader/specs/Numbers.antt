@@ -1,14 +1,14 @@
 -- Reading parts that several lines share: what lines begin with, numbers in range, and names that are new. Assumes nothing.
-use Rattle.std.specs.Prelude.{◌≡◌, ℕ, min, cond, List, codes, nat_le}
+use Rattle.std.specs.Prelude.{◌≡◌, ℕ, cond, List, codes, nat_le}
 use Rattle.grammar.specs.declared.Refusal.TheVariants.{Name, Range}
 use Rattle.grammar.specs.Grammar.{Word, Numeral}
 use Rattle.grammar.specs.Reading.{Got, ok, bad, then, literal, name, numeral, size, within, Names, free}
-use Rattle.tokens.specs.declared.Number as number
-use Rattle.tokens.specs.Sizes.{is_minus}
+use Rattle.tokens.specs.declared.numbers.Number as number
+use Rattle.tokens.specs.Sizes.{told_value}
 
 -- p tells of n, sizes above 1,000,000 being all the same
 abbrev pub Tells : Numeral → number.Number → Type 0
-Tells n p = (p.size ≡ min 1000001 (size n)) × (p.negative ≡ is_minus n)
+Tells n p = p.value ≡ told_value n
 
 -- a number whose size is at most so much
 unfoldable pub number_at : List ℕ → ℕ → ℕ → Got Numeral

@@ -1,20 +1,20 @@
 // Lines that declare sets, tables and variable arrays.
-ghost use Rattle.std.specs.Prelude.{◌≡◌, ◌+◌, ◌-◌, ◌*◌, ◌≤◌, length};
+ghost use Rattle.std.specs.Prelude.{◌≡◌, ◌+◌, ◌-◌, ◌*◌, ◌≤◌, length, if◌then◌else◌, ◌==◌};
 ghost use Rattle.compose.specs.Agree.{Agree};
-ghost use Rattle.grammar.specs.Reading.{State, set_at, shape as shape_at, array_at, numerals, table_at};
-ghost use Rattle.reader.specs.Lines.{Stood, NameRead, SetRead, ShapeRead, ArrayRead, NumbersRead, TableRead};
+ghost use Rattle.grammar.specs.declared.Refusal.TheVariants.{Syntax, Range};
+ghost use Rattle.grammar.specs.Reading.{State, byte, set_at, shape as shape_at, array_at, numerals, table_at};
+ghost use Rattle.reader.specs.Lines.{NameRead, SetRead, ShapeRead, ArrayRead, NumbersRead, TableRead};
 ghost use Rattle.reader.specs.Numbers.{opening_at, new_name};
 ghost use Rattle.scope.specs.Names.{names_in};
-ghost use Rattle.tokens.specs.Told.{Told};
+ghost use Rattle.tokens.specs.Told.{Told, Stood};
 
 use crate::numbers::{number, size};
 use crate::{ArrayLine, SetLine, Shape, TableLine};
 use compose::Name;
 use compose::nodes::put_number;
 use grammar::Refusal;
-use scope::names::find;
-use scope::scopes::Scope;
-use tokens::{literal, look, name};
+use scope::Scope;
+use tokens::{is_at, literal, name};
 
 // How many sets, tables and variable arrays there may be, of each.
 const MOST_OF_A_SORT: usize = 16;
@@ -25,13 +25,8 @@ const LARGEST_BOUND: u32 = 1_000_000;
 // The largest number of a table.
 const LARGEST_NUMBER: u32 = 999_999;
 
-// What stands between the numbers of a table.
-const COMMA: u16 = 44;
-
-// What stands behind the last number of a table.
-const LINE_END: u16 = 10;
-
 // The word that a line begins with, where fewer such lines than `most` stand before it.
+#[tactic(auto, using(tokens::proofs::Steps::steps), unfolding(crate::specs::Numbers::opening_at))]
 pub(crate) fn opening(
     text: &[u8],
     word: &[u8],
@@ -49,18 +44,20 @@ pub(crate) fn opening(
 }
 
 // A name that is not in force.
+#[tactic(auto, using(crate::proofs::Told::new_names), unfolding(crate::specs::Numbers::new_name))]
 pub(crate) fn new_name(text: &[u8], scope: &Scope, at: usize) -> Result<Name, Refusal>
     ensures told { Told (λ p. p.end) (NameRead text.now at) (new_name text.now (names_in text.now scope.now) at) result }
 {
     let end = name(text, at)?;
     let found = Name { begin: at, end };
-    if find(text, scope, found).is_some() {
+    if scope.find(text, found).is_some() {
         return Err(Refusal::Name(at));
     }
     Ok(found)
 }
 
 // A set: its name and its size.
+#[tactic(auto, using(tokens::proofs::Steps::steps, crate::proofs::Parts::set_is))]
 pub(crate) fn set_line(
     text: &[u8],
     scope: &Scope,
@@ -76,12 +73,13 @@ pub(crate) fn set_line(
     let end = literal(text, b"\n", number.end)?;
     Ok(SetLine {
         name,
-        size: number.size as usize,
+        size: number.size,
         end,
     })
 }
 
 // What tables and variable arrays begin with: a name, rows and columns.
+#[tactic(auto, using(tokens::proofs::Steps::steps, crate::proofs::Parts::shape_is))]
 pub(crate) fn shape(text: &[u8], scope: &Scope, line: usize, at: usize) -> Result<Shape, Refusal>
     ensures told { Told (λ p. p.end) (ShapeRead text.now at) (shape_at text.now (names_in text.now scope.now) line at) result }
 {
@@ -90,13 +88,14 @@ pub(crate) fn shape(text: &[u8], scope: &Scope, line: usize, at: usize) -> Resul
     let columns = size(text, 1, line, rows.end)?;
     Ok(Shape {
         name,
-        rows: rows.size as usize,
-        columns: columns.size as usize,
+        rows: rows.size,
+        columns: columns.size,
         end: columns.end,
     })
 }
 
 // A variable array: its shape, and the bounds of its variables.
+#[tactic(auto, using(tokens::proofs::Steps::steps, crate::proofs::Parts::array_is))]
 pub(crate) fn array_line(
     text: &[u8],
     scope: &Scope,
@@ -124,6 +123,18 @@ pub(crate) fn array_line(
     })
 }
 
+// Why a table's numbers end before all that are wanted stood there: they are too few, which is told
+// at their line, if the line ends, and else what stands there is no comma.
+fn too_few(text: &[u8], line: usize, at: usize) -> Refusal
+    ensures { result ≡ (if byte text.now at == 10 then Range line else Syntax at) }
+{
+    if is_at(text, at, b'\n') {
+        Refusal::Range(line)
+    } else {
+        Refusal::Syntax(at)
+    }
+}
+
 // The numbers of a table behind its first, as many as are wanted, into a word each. Too many or too
 // few are told at their line, but too few only if the line ends there.
 fn table_numbers(
@@ -142,28 +153,24 @@ fn table_numbers(
     ensures below { Agree 0 free words.old words.new }
 {
     let mut here = at;
-    let mut next = free;
-    let mut left = wanted;
-    while look(text, here) == COMMA {
-        let from = literal(text, b", ", here)?;
-        if left == 0 {
-            return Err(Refusal::Range(line));
+    for i in 0..wanted {
+        if !is_at(text, here, b',') {
+            return Err(too_few(text, line, here));
         }
+        let from = literal(text, b", ", here)?;
         let found = number(text, LARGEST_NUMBER, from)?;
-        next = put_number(words, next, found.value).unwrap();
-        left -= 1;
+        put_number(words, free + i, found.value).unwrap();
         here = found.end;
     }
-    if left == 0 {
+    if !is_at(text, here, b',') {
         return Ok(here);
     }
-    if look(text, here) == LINE_END {
-        return Err(Refusal::Range(line));
-    }
-    Err(Refusal::Syntax(here))
+    literal(text, b", ", here)?;
+    Err(Refusal::Range(line))
 }
 
 // A table: its shape, and its numbers, row by row, from word `free` on.
+#[tactic(auto, using(tokens::proofs::Steps::steps, crate::proofs::Parts::table_is, compose::proofs::Settled::agree_self))]
 pub(crate) fn table_line(
     text: &[u8],
     scope: &Scope,

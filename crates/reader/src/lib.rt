@@ -10,15 +10,15 @@ mod numbers;
 
 use compose::Name;
 
-// A number in range that stands in a text: its value, and where it ends.
-#[derive(Clone, Copy)]
-pub struct Value {
-    pub value: i64,
+// A size that stands in a text, and where it ends.
+#[derive(Clone, Copy, Debug, PartialEq)]
+pub struct SizeAt {
+    pub size: usize,
     pub end: usize,
 }
 
 // A line that declares a set.
-#[derive(Clone, Copy)]
+#[derive(Clone, Copy, Debug, PartialEq)]
 pub struct SetLine {
     pub name: Name,
     pub size: usize,
@@ -26,7 +26,7 @@ pub struct SetLine {
 }
 
 // What a line declares a table or a variable array with first.
-#[derive(Clone, Copy)]
+#[derive(Clone, Copy, Debug, PartialEq)]
 pub struct Shape {
     pub name: Name,
     pub rows: usize,
@@ -35,7 +35,7 @@ pub struct Shape {
 }
 
 // A line that declares a variable array, with the bounds of its variables.
-#[derive(Clone, Copy)]
+#[derive(Clone, Copy, Debug, PartialEq)]
 pub struct ArrayLine {
     pub shape: Shape,
     pub lower: i64,
@@ -44,7 +44,7 @@ pub struct ArrayLine {
 }
 
 // A line that declares a table, and the first word behind the table's numbers.
-#[derive(Clone, Copy)]
+#[derive(Clone, Copy, Debug, PartialEq)]
 pub struct TableLine {
     pub shape: Shape,
     pub next: usize,

@@ -10,69 +10,6 @@ use Rattle.reader.proofs.Ranges.{in_order, not_in_order}
 use Rattle.reader.proofs.Told.{array_made}
 use Rattle.reader.proofs.declarations.array_line.Goals as goal
 
-pub returns-in_err-begin : goal.returns-in_err-begin
-returns-in_err-begin c =
-    let x = c.from_residual in
-    record {
-      told = λ st e f. told_exit _ _ _ _ x.result x.ensures.1
-          (array_is _ st _ _ _ e f ∙ then_bad _ c.in_err-begin.ensures.told);
-    }
-
-pub returns-in_err-shape : goal.returns-in_err-shape
-returns-in_err-shape c =
-    let x = c.from_residual-in_err-shape in
-    let (u, h, p) = c.in_ok-begin.ensures.told in
-    record {
-      told = λ st e f. told_exit _ _ _ _ x.result x.ensures.1
-          (array_is _ st _ _ _ e f ∙ then_ok _ h ∙ then_bad _ c.in_err-shape.ensures.told);
-    }
-
-pub returns-in_err-from : goal.returns-in_err-from
-returns-in_err-from c =
-    let x = c.from_residual-in_err-from in
-    let (u, h, p) = c.in_ok-begin.ensures.told in
-    let (s, i, q) = c.in_ok-shape.ensures.told in
-    record {
-      told = λ st e f. told_exit _ _ _ _ x.result x.ensures.1
-          (array_is _ st _ _ _ e f ∙ then_ok _ h ∙ then_ok _ i ∙ then_bad _ c.in_err-from.ensures.told);
-    }
-
-pub returns-in_err-lower : goal.returns-in_err-lower
-returns-in_err-lower c =
-    let x = c.from_residual-in_err-lower in
-    let (u, h, p) = c.in_ok-begin.ensures.told in
-    let (s, i, q) = c.in_ok-shape.ensures.told in
-    let (v, j, r) = c.in_ok-from.ensures.told in
-    record {
-      told = λ st e f. told_exit _ _ _ _ x.result x.ensures.1
-          (array_is _ st _ _ _ e f ∙ then_ok _ h ∙ then_ok _ i ∙ then_ok _ j ∙ then_bad _ c.in_err-lower.ensures.told);
-    }
-
-pub returns-in_err-to : goal.returns-in_err-to
-returns-in_err-to c =
-    let x = c.from_residual-in_err-to in
-    let (u, h, p) = c.in_ok-begin.ensures.told in
-    let (s, i, q) = c.in_ok-shape.ensures.told in
-    let (v, j, r) = c.in_ok-from.ensures.told in
-    let (l, k, o) = c.in_ok-lower.ensures.told in
-    record {
-      told = λ st e f. told_exit _ _ _ _ x.result x.ensures.1
-          (array_is _ st _ _ _ e f ∙ then_ok _ h ∙ then_ok _ i ∙ then_ok _ j ∙ then_ok _ k ∙ then_bad _ c.in_err-to.ensures.told);
-    }
-
-pub returns-in_err-upper : goal.returns-in_err-upper
-returns-in_err-upper c =
-    let x = c.from_residual-in_err-upper in
-    let (u, h, p) = c.in_ok-begin.ensures.told in
-    let (s, i, q) = c.in_ok-shape.ensures.told in
-    let (v, j, r) = c.in_ok-from.ensures.told in
-    let (l, k, o) = c.in_ok-lower.ensures.told in
-    let (y, m, t) = c.in_ok-to.ensures.told in
-    record {
-      told = λ st e f. told_exit _ _ _ _ x.result x.ensures.1
-          (array_is _ st _ _ _ e f ∙ then_ok _ h ∙ then_ok _ i ∙ then_ok _ j ∙ then_ok _ k ∙ then_ok _ m ∙ then_bad _ c.in_err-upper.ensures.told);
-    }
-
 pub returns-then-lower-upper : goal.returns-then-lower-upper
 returns-then-lower-upper c =
     let (u, h, p) = c.in_ok-begin.ensures.told in

@@ -1,40 +1,9 @@
 use Rattle.std.proofs.Common.{◌∙◌}
 use Rattle.grammar.specs.Grammar.{set_line}
-use Rattle.tokens.proofs.Steps.{told_exit, then_ok, then_bad}
+use Rattle.tokens.proofs.Steps.{then_ok}
 use Rattle.reader.proofs.Parts.{set_is}
 use Rattle.reader.proofs.Told.{set_made}
 use Rattle.reader.proofs.declarations.set_line.Goals as goal
-
-pub returns-in_err-begin : goal.returns-in_err-begin
-returns-in_err-begin c =
-    let z = c.from_residual in
-    record { told = λ st e f. told_exit _ _ _ _ z.result z.ensures.1 (set_is _ st _ _ _ e f ∙ then_bad _ c.in_err-begin.ensures.told) }
-
-pub returns-in_err-name : goal.returns-in_err-name
-returns-in_err-name c =
-    let z = c.from_residual-in_err-name in
-    let (u, h, p) = c.in_ok-begin.ensures.told in
-    record { told = λ st e f. told_exit _ _ _ _ z.result z.ensures.1 (set_is _ st _ _ _ e f ∙ then_ok _ h ∙ then_bad _ c.in_err-name.ensures.told) }
-
-pub returns-in_err-number : goal.returns-in_err-number
-returns-in_err-number c =
-    let z = c.from_residual-in_err-number in
-    let (u, h, p) = c.in_ok-begin.ensures.told in
-    let (w, i, q) = c.in_ok-name.ensures.told in
-    record {
-      told = λ st e f. told_exit _ _ _ _ z.result z.ensures.1 (set_is _ st _ _ _ e f ∙ then_ok _ h ∙ then_ok _ i ∙ then_bad _ c.in_err-number.ensures.told);
-    }
-
-pub returns-in_err-end : goal.returns-in_err-end
-returns-in_err-end c =
-    let z = c.from_residual-in_err-end in
-    let (u, h, p) = c.in_ok-begin.ensures.told in
-    let (w, i, q) = c.in_ok-name.ensures.told in
-    let (n, j, r) = c.in_ok-number.ensures.told in
-    record {
-      told = λ st e f. told_exit _ _ _ _ z.result z.ensures.1
-          (set_is _ st _ _ _ e f ∙ then_ok _ h ∙ then_ok _ i ∙ then_ok _ j ∙ then_bad _ c.in_err-end.ensures.told);
-    }
 
 pub returns : goal.returns
 returns c =

@@ -1,7 +1,7 @@
 use Rattle.std.proofs.Common.{◌≡◌, ◌+◌, length, ◌∙◌, arith, w64, SFits, to_z, rules}
 use Rattle.std.proofs.lemmas.Int.{to_z-of_z}
 use Rattle.compose.specs.Agree.{Agree}
-use Rattle.compose.proofs.Settled.{agree_self, agree_on, agree_part}
+use Rattle.compose.proofs.Settled.{agree_on, agree_part}
 use Rattle.grammar.specs.Grammar.{table_line}
 use Rattle.model.specs.Words.{word}
 use Rattle.tokens.proofs.Steps.{told_exit, then_ok, then_bad}
@@ -17,54 +17,13 @@ overflow_sub-wanted c = let (s, i, q) = c.in_ok-shape.ensures.told in some_entri
 first_put : (c : After-unwrap-others) → (c.unwrap-others.result ≡ c.args.free + 1) × (to_z w64 (word c.put_number.new.words c.args.free) ≡ c.in_ok-first.first.value)
 first_put c =
     let fits : SFits w64 c.in_ok-first.first.value = search rules in
-    let (g, y) = put_done c.put_number.result (length c.args.words.now) c.args.free c.unwrap-others.result c.put_number.ensures.next (omega arith) (omega arith) c.put_number.ensures.here c.unwrap-others.ensures in
-    (g, y ∙ to_z-of_z w64 c.in_ok-first.first.value fits)
+    let (g, y) = put_done c.put_number.result (length c.args.words.now) c.args.free c.put_number.ensures.appends.next (omega arith) (omega arith) c.put_number.ensures.here in
+    let u = c.unwrap-others.ensures in
+    (cc, y ∙ to_z-of_z w64 c.in_ok-first.first.value fits)
 
 -- what stands below the table stays
 all_below : (c : After-table_numbers) → Agree 0 c.args.free c.args.words.now c.table_numbers.new.words
-all_below c = let (g, y) = first_put (goal.at.After-table_numbers c).After-unwrap-others in agree_on c.put_number.ensures.below (agree_part 0 c.args.free (omega arith) (omega arith) c.table_numbers.ensures.below)
-
-pub returns-in_err-begin : goal.returns-in_err-begin
-returns-in_err-begin c =
-    let x = c.from_residual in
-    record {
-      told = λ st e f. told_exit _ _ _ _ x.result x.ensures.1
-          (table_is _ st _ _ _ e f ∙ then_bad _ c.in_err-begin.ensures.told);
-      below = agree_self 0 c.args.free c.args.words.now;
-    }
-
-pub returns-in_err-shape : goal.returns-in_err-shape
-returns-in_err-shape c =
-    let x = c.from_residual-in_err-shape in
-    let (u, h, p) = c.in_ok-begin.ensures.told in
-    record {
-      told = λ st e f. told_exit _ _ _ _ x.result x.ensures.1
-          (table_is _ st _ _ _ e f ∙ then_ok _ h ∙ then_bad _ c.in_err-shape.ensures.told);
-      below = agree_self 0 c.args.free c.args.words.now;
-    }
-
-pub returns-in_err-from : goal.returns-in_err-from
-returns-in_err-from c =
-    let x = c.from_residual-in_err-from in
-    let (u, h, p) = c.in_ok-begin.ensures.told in
-    let (s, i, q) = c.in_ok-shape.ensures.told in
-    record {
-      told = λ st e f. told_exit _ _ _ _ x.result x.ensures.1
-          (table_is _ st _ _ _ e f ∙ then_ok _ h ∙ then_ok _ i ∙ then_bad _ c.in_err-from.ensures.told);
-      below = agree_self 0 c.args.free c.args.words.now;
-    }
-
-pub returns-in_err-first : goal.returns-in_err-first
-returns-in_err-first c =
-    let x = c.from_residual-in_err-first in
-    let (u, h, p) = c.in_ok-begin.ensures.told in
-    let (s, i, q) = c.in_ok-shape.ensures.told in
-    let (v, j, r) = c.in_ok-from.ensures.told in
-    record {
-      told = λ st e f. told_exit _ _ _ _ x.result x.ensures.1
-          (table_is _ st _ _ _ e f ∙ then_ok _ h ∙ then_ok _ i ∙ then_ok _ j ∙ then_bad _ c.in_err-first.ensures.told);
-      below = agree_self 0 c.args.free c.args.words.now;
-    }
+all_below c = let (g, y) = first_put (goal.at.After-table_numbers c).After-unwrap-others in agree_on c.put_number.ensures.appends.below (agree_part 0 c.args.free (omega arith) (omega arith) c.table_numbers.ensures.below)
 
 pub returns-in_err-behind : goal.returns-in_err-behind
 returns-in_err-behind c =
