@@ -9,7 +9,7 @@ use Rattle.grammar.specs.Grammar.{Term}
 use Rattle.grammar.specs.Reading.{Got, ok, bad, then, byte, one_byte, literal, sign, is_sign}
 use Rattle.tokens.proofs.Steps.{then_ok, then_bad}
 use Rattle.tokens.specs.Told.{Told}
-use Rattle.expressions.specs.declared.SignAt.{SignAt}
+use Rattle.expressions.specs.declared.At.{At}
 use Rattle.expressions.specs.Sums.{stops, goes_on, sign_after, sign_of, sign_end, SignRead, followed}
 use Rattle.expressions.proofs.Signs.{signed_at, past_end, one_on}
 
@@ -74,13 +74,13 @@ not-true true e = refl
 not-true false e = sym e
 
 -- what code told of a sign that may not be there
-pub told_none : (x : List ℕ) (e : ℕ) (o : Got (Option Sign)) (r : Option SignAt) → r ≡ None → Told (sign_end e) (SignRead x e) o (Ok r) → o ≡ ok None e
+pub told_none : (x : List ℕ) (e : ℕ) (o : Got (Option Sign)) (r : Option (At Sign)) → r ≡ None → Told (sign_end e) (SignRead x e) o (Ok r) → o ≡ ok None e
 told_none x e o None i (s, h, p) = h ∙ ap (λ s. ok s e) p
 told_none x e o (Some s) i t = let y : ◌≡◌ {A = ℕ} 0 1 = cc in absurd (omega arith)
 
-pub told_some : (x : List ℕ) (e : ℕ) (o : Got (Option Sign)) (r : Option SignAt) (s : SignAt) → r ≡ Some s → Told (sign_end e) (SignRead x e) o (Ok r) → (o ≡ ok (Some s.sign) s.end) × (s.end ≡ e + 2) × (s.end ≤ length x) × (s.end ≤ 65536)
+pub told_some : (x : List ℕ) (e : ℕ) (o : Got (Option Sign)) (r : Option (At Sign)) (s : At Sign) → r ≡ Some s → Told (sign_end e) (SignRead x e) o (Ok r) → (o ≡ ok (Some s.value) s.end) × (s.end ≡ e + 2) × (s.end ≤ length x) × (s.end ≤ 65536)
 told_some x e o r s i t = go (subst (λ r. Told (sign_end e) (SignRead x e) o (Ok r)) i t) where
-  go : Told (sign_end e) (SignRead x e) o (Ok (Some s)) → (o ≡ ok (Some s.sign) s.end) × (s.end ≡ e + 2) × (s.end ≤ length x) × (s.end ≤ 65536)
+  go : Told (sign_end e) (SignRead x e) o (Ok (Some s)) → (o ≡ ok (Some s.value) s.end) × (s.end ≡ e + 2) × (s.end ≤ length x) × (s.end ≤ 65536)
   go (g, h, p) = (h ∙ ap (λ g. ok g s.end) p.0, p.1, p.2, p.3)
 
 -- a sign stands only behind a space

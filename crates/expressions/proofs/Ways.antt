@@ -1,6 +1,6 @@
 -- Ways of reading a number, by what stands at its place. Assumes nothing.
 use Rattle.std.proofs.Common.{◌≡◌, ℕ, zero, suc, ◌-◌, Bool, true, false, cond, not, ◌&&◌, eqb, List, [], ◌∷◌, Some, codes, sym, refl, ap, ◌∙◌, arith}
-use Rattle.std.proofs.lemmas.Bool.{cond-true, cond-false, eq-eqb, ne_eqb}
+use Rattle.std.proofs.lemmas.Bool.{cond-true, cond-false, eq-eqb, ne_eqb, eqb-true, both_ways}
 use Rattle.grammar.specs.declared.Refusal.TheVariants.{Syntax, Name, Range}
 use Rattle.grammar.specs.Grammar.{is_letter, Word, Num, index, entry1, entry2}
 use Rattle.grammar.specs.Reading.{Got, ok, bad, then, byte, literal, name, Names, find, a_table, an_index, table_there, index_there, one_place, fixed_at, named, num, any_num, pair, place}
@@ -26,6 +26,14 @@ then_cond false o p g = refl
 pub cond_same : {A : Type 0} (b : Bool) {o p q r : A} → o ≡ q → p ≡ r → cond b o p ≡ cond b q r
 cond_same true e f = e
 cond_same false e f = f
+
+-- BYTES that were tested
+
+pub is_byte : (b n : ℕ) → true ≡ eqb b n → b ≡ n
+is_byte b n e = eqb-true b n (sym e)
+
+pub no_byte : (b n : ℕ) → false ≡ eqb b n → b ≡ n → ⊥
+no_byte b n e f = both_ways (eqb b n) (sym e) (eq-eqb b n f)
 
 -- NUMBERS
 

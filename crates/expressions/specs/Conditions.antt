@@ -11,7 +11,6 @@ use Rattle.grammar.specs.Reading.{Got, ok, bad, then, byte, literal, name, Names
 use Rattle.grammar.specs.Says.{num_of, filter_of}
 use Rattle.expressions.specs.declared.Node.{Node}
 use Rattle.expressions.specs.declared.Filter.{Filter}
-use Rattle.expressions.specs.declared.RelationAt.{RelationAt}
 use Rattle.expressions.specs.Made.{Zero, Made}
 
 -- two numbers, compared
@@ -19,10 +18,6 @@ pub record Compared : Type 0 where
   pub left : Num
   pub relation : Relation
   pub right : Num
-
--- what code tells of a relation
-abbrev pub Relates : List ℕ → ℕ → Relation → RelationAt → Type 0
-Relates x at o p = (o ≡ p.relation) × (at < p.end) × (p.end ≤ length x) × (p.end ≤ 65536)
 
 unfoldable pub compared_at : List ℕ → (ℕ → Got Num) → ℕ → Got Compared
 compared_at x number at =

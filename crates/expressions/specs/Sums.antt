@@ -17,9 +17,8 @@ use Rattle.expressions.specs.declared.Lead.TheVariants as lead
 use Rattle.expressions.specs.declared.Node.{Node}
 use Rattle.expressions.specs.declared.TermAt.{TermAt}
 use Rattle.std.specs.Str.{bytes_eq}
-use Rattle.expressions.specs.declared.ComparisonAt.{ComparisonAt}
 use Rattle.expressions.specs.declared.Run.{Run}
-use Rattle.expressions.specs.declared.SignAt.{SignAt}
+use Rattle.expressions.specs.declared.At.{At}
 use Rattle.expressions.specs.Made.{Zero, Made}
 
 -- a term, and whether a space follows it
@@ -41,10 +40,10 @@ deep_of zero = true
 deep_of (suc nest) = false
 
 -- what a word begins
-abbrev pub Leads : Word → Lead → Type 0
-Leads w lead.Sum = w ≡ codes "sum"
-Leads w lead.Name = Spells w None
-Leads w lead.Neither = (w ≢ codes "sum") × (member w reserved ≡ true)
+abbrev pub Leads : Word → Option Lead → Type 0
+Leads w (Some lead.Sum) = w ≡ codes "sum"
+Leads w (Some lead.Name) = Spells w None
+Leads w None = (w ≢ codes "sum") × (member w reserved ≡ true)
 
 -- a term, where no `all` may stand
 abbrev pub term_at : List ℕ → Names → ℕ → ℕ → ℕ → ℕ → Got Follow
@@ -120,13 +119,13 @@ abbrev pub sign_of : ℕ → Option Sign
 sign_of c = cond (c == 43) (Some Positive) (cond (c == 45) (Some Negative) None)
 
 -- where a sign ends that may not be there, and what is told of it
-abbrev pub sign_end : ℕ → Option SignAt → ℕ
+abbrev pub sign_end : ℕ → Option (At Sign) → ℕ
 sign_end at None = at
 sign_end at (Some s) = s.end
 
-abbrev pub SignRead : List ℕ → ℕ → Option Sign → Option SignAt → Type 0
+abbrev pub SignRead : List ℕ → ℕ → Option Sign → Option (At Sign) → Type 0
 SignRead x at o None = o ≡ None
-SignRead x at o (Some s) = (o ≡ Some s.sign) × (s.end ≡ at + 2) × (s.end ≤ length x) × (s.end ≤ 65536)
+SignRead x at o (Some s) = (o ≡ Some s.value) × (s.end ≡ at + 2) × (s.end ≤ length x) × (s.end ≤ 65536)
 
 -- TERMS THAT WAIT. Two words each, the newest last: the sign and the place of the term's node
 
@@ -139,8 +138,8 @@ pub record Item : Type 0 where
   pub term : model.Lin
 
 abbrev pub sign_word : Sign → ℕ
-sign_word Positive = 0
-sign_word Negative = 1
+sign_word Positive = 12
+sign_word Negative = 13
 
 -- the newest first, from place depth up to d of the words ps; n words of ws are written
 unfoldable pub Stacked : List ℕ → ℕ → List ℕ → ℕ → List Item → ℕ → Type 0
@@ -183,14 +182,6 @@ sides_at x ns most nest at =
     cond (spaced_of r)
     (then (comparison x e) (λ c m. then (literal x (codes " ") m) (λ _ m. then (lin x most nest ns 64 m) (λ l z. ok (compare (sides_of c l r)) z))))
     (bad (Syntax e)))
-
--- what code tells of a comparison
-abbrev pub Compares : List ℕ → ℕ → Comparison → ComparisonAt → Type 0
-Compares x at c p = (c ≡ p.comparison) × (at < p.end) × (p.end ≤ length x) × (p.end ≤ 65536)
-
-abbrev pub IsAll : Word → Bool → Type 0
-IsAll w true = w ≡ codes "all"
-IsAll w false = w ≡ codes "all" → ⊥
 
 -- whether `all` stands at a place
 abbrev pub AllWord : List ℕ → ℕ → Option ℕ → Type 0

@@ -1,8 +1,3 @@
-// NOTE TO THE HELPER OF THIS CLONE (do not commit this line; `git checkout` this file): the crate
-// `expressions` is taken over in another clone from here on. Leave it as it is. Finish `reader`, commit,
-// tidy and plant tokens, scope and reader, make scope's `Prim.grind` go (the words "search" and "grind"
-// stay out of src/ and specs/: prove `inverse_ok` by a lemma of specs/ with other tactics, or do without
-// Copy and the inverse), write the report, and stop.
 // Numbers, conditions, sums and constraints of a text, read into the words of a model.
 //
 // Each function reads one production at a place of the text and returns where it ends, or the fault
@@ -16,13 +11,9 @@
 // runs out, and no function on the way has to ask for it.
 #![tactic(auto)]
 
-
 mod context;
 pub mod nodes;
-
-
-
-
+pub mod numbers;
 
 use compose::Name;
 
