@@ -1,4 +1,3 @@
-pub mod Written
 pub mod Signs
 pub mod NumberTrees
 pub mod Ways

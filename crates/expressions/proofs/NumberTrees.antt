@@ -1,5 +1,5 @@
 -- Numbers that were read and written. Assumes nothing.
-use Rattle.std.proofs.Common.{◌≡◌, ℕ, zero, suc, min, nat_abs, pos, neg_ℤ, ap, ◌+◌, ◌*◌, ◌<◌, ◌≤◌, Bool, true, false, cond, eqb, List, length, ℤ, Some, sym, refl, ◌∙◌, subst, arith}
+use Rattle.std.proofs.Common.{◌≡◌, ℕ, zero, suc, min, nat_abs, pos, neg_ℤ, ap, ◌+◌, ◌*◌, ◌<◌, ◌≤◌, Bool, true, false, cond, eqb, List, length, Some, sym, refl, ◌∙◌, subst, arith}
 use Rattle.model.specs.Model as model
 use Rattle.model.specs.Kept.{NumIn}
 use Rattle.compose.specs.Agree.{Agree, Settled}

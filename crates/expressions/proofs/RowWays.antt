@@ -1,19 +1,15 @@
 -- Ways of reading a comparison and a constraint. Assumes nothing.
-use Rattle.std.proofs.Common.{◌≡◌, ℕ, zero, suc, ◌+◌, ◌-◌, ◌*◌, ◌<◌, ◌≤◌, Bool, true, false, cond, ◌&&◌, eqb, ltb, leb, List, length, take, drop, Some, codes, Option, sym, refl, ap, ◌∙◌, subst, arith, length-drop}
-use Rattle.std.proofs.lemmas.List.{length-take-le}
+use Rattle.std.proofs.Common.{◌≡◌, ℕ, zero, suc, ◌+◌, ◌-◌, ◌*◌, ◌<◌, ◌≤◌, Bool, true, false, cond, ◌&&◌, ltb, leb, List, length, Some, codes, Option, sym, refl, ap, ◌∙◌, subst, arith}
 use Rattle.std.specs.Str.{bytes_eq}
-use Rattle.std.proofs.lemmas.Bool.{cond-true, cond-false, eq-eqb, ne_eqb}
 use Rattle.model.specs.declared.Sign.{Sign}
 use Rattle.model.specs.declared.Sign.TheVariants.{Positive}
 use Rattle.model.specs.declared.Comparison.{Comparison}
-use Rattle.model.specs.declared.Comparison.TheVariants.{AtMost, AtLeast, Exactly}
 use Rattle.model.specs.Model as model
 use Rattle.model.specs.Kept.{LinIn, FilterIn, ConstraintIn}
 use Rattle.compose.specs.Agree.{Agree, Settled}
-use Rattle.grammar.specs.declared.Refusal.{Refusal}
 use Rattle.grammar.specs.declared.Refusal.TheVariants.{Syntax}
 use Rattle.grammar.specs.Grammar.{is_letter, Word, Cond, Lin, Row, compare, for_all}
-use Rattle.grammar.specs.Reading.{Got, ok, bad, then, byte, one_byte, in_length, run_at, literal, word, Names, find, a_set, lin, comparison, row, with_index}
+use Rattle.grammar.specs.Reading.{ok, bad, then, byte, in_length, run_at, literal, word, Names, find, a_set, lin, comparison, row, with_index}
 use Rattle.grammar.specs.Says.{term_of, lin_behind, left_of, right_of, comparison_of, row_of, filter_of, number_of}
 use Rattle.expressions.specs.declared.Node.{Node}
 use Rattle.expressions.specs.declared.Filter.{Filter}
@@ -21,30 +17,11 @@ use Rattle.expressions.specs.declared.Run.{Run}
 use Rattle.expressions.specs.declared.Chain.{Chain}
 use Rattle.expressions.specs.Made.{Zero}
 use Rattle.expressions.specs.Conditions.{BoundNames, bound_at, filter_at, FilterMade}
-use Rattle.expressions.specs.Sums.{deep_of, Terms, run_end, run_more, spaced_of, sum_of, sides_of, terms_at, second_byte, sides_at, Item, Stacked, chained, TermsMade, LinMade, RowMade}
+use Rattle.expressions.specs.Sums.{deep_of, Terms, run_end, run_more, spaced_of, sum_of, sides_of, terms_at, sides_at, Item, Stacked, chained, TermsMade, LinMade, RowMade}
 use Rattle.expressions.proofs.Ways.{then_then, then_same, then_cond, cond_same}
 use Rattle.expressions.proofs.NumberTrees.{settled_on, zero_on}
 use Rattle.expressions.proofs.Follows.{row_plain, row_all, body_of}
-use Rattle.expressions.proofs.SumWays.{header_as, differs}
-
--- COMPARISONS
-
-module _ (x : List ℕ) (at : ℕ) where
-  pub comparison_less : byte x at ≡ 60 → comparison x at ≡ second_byte x AtMost at
-  unfolding comparison second_byte
-  comparison_less e = cond-true (eqb (byte x at) 60) _ _ (eq-eqb (byte x at) 60 e)
-
-  pub comparison_more : byte x at ≡ 62 → comparison x at ≡ second_byte x AtLeast at
-  unfolding comparison second_byte
-  comparison_more e = cond-false (eqb (byte x at) 60) _ _ (ap (λ b. eqb b 60) e) ∙ cond-true (eqb (byte x at) 62) _ _ (eq-eqb (byte x at) 62 e)
-
-  pub comparison_equal : byte x at ≡ 61 → comparison x at ≡ one_byte at Exactly
-  unfolding comparison
-  comparison_equal e = cond-false (eqb (byte x at) 60) _ _ (ap (λ b. eqb b 60) e) ∙ cond-false (eqb (byte x at) 62) _ _ (ap (λ b. eqb b 62) e) ∙ cond-true (eqb (byte x at) 61) _ _ (eq-eqb (byte x at) 61 e)
-
-  pub comparison_none : (byte x at ≡ 60 → ⊥) → (byte x at ≡ 62 → ⊥) → (byte x at ≡ 61 → ⊥) → comparison x at ≡ bad (Syntax at)
-  unfolding comparison
-  comparison_none a b c = cond-false (eqb (byte x at) 60) _ _ (ne_eqb (byte x at) 60 a) ∙ cond-false (eqb (byte x at) 62) _ _ (ne_eqb (byte x at) 62 b) ∙ cond-false (eqb (byte x at) 61) _ _ (ne_eqb (byte x at) 61 c)
+use Rattle.expressions.proofs.SumWays.{header_as}
 
 -- CONSTRAINTS
 
@@ -108,24 +85,6 @@ letter x at w e h = go (is_letter (byte x at)) h where
   go : (b : Bool) → cond b (cond (ltb 12 (length (run_at x at)) && leb (at + 12) 65536) (bad (Syntax (at + 12))) (in_length (run_at x at) (at + length (run_at x at)))) (bad (Syntax at)) ≡ ok w e → b ≡ true
   go true i = refl
   go false i = let y : ◌≡◌ {A = ℕ} 0 1 = cc in absurd (omega arith)
-
--- `all`, or another word
-pub all_there : (x : List ℕ) (at e : ℕ) (w : Word) → word x at ≡ ok w e → w ≡ codes "all" → (is_letter (byte x at) ≡ true) × (word x at ≡ ok (codes "all") e)
-all_there x at e w h i = (letter x at w e h, h ∙ ap (λ v. ok v e) i)
-
-pub all_long : (x : List ℕ) (at e : ℕ) (w : Word) → at < e → e ≤ length x → w ≡ take (e - at) (drop at x) → w ≡ codes "all" → at + 3 ≡ e
-all_long x at e w l m h i =
-    let d = length-drop at x in
-    let t = length-take-le (e - at) (drop at x) (omega arith) in
-    let n : length w ≡ 3 = ap length i in
-    let k = ap length h in
-    omega arith
-
-pub not_all : (x : List ℕ) (at e : ℕ) (w : Word) → word x at ≡ ok w e → (w ≡ codes "all" → ⊥) → (v : Word) (z : ℕ) → word x at ≡ ok v z → bytes_eq v (codes "all") ≡ false
-not_all x at e w h n v z i = let y : ok w e ≡ ok v z = sym h ∙ i in let k : v ≡ w = cc in differs v (codes "all") (λ j. n (sym k ∙ j))
-
-pub no_word : (x : List ℕ) (at : ℕ) (q : Refusal) → word x at ≡ bad q → (v : Word) (z : ℕ) → word x at ≡ ok v z → bytes_eq v (codes "all") ≡ false
-no_word x at q h v z i = let y : ◌≡◌ {A = Got Word} (bad q) (ok v z) = sym h ∙ i in let k : ◌≡◌ {A = ℕ} 0 1 = cc in absurd (omega arith)
 
 -- us, vs, ws, ys, zs: before the constraint, behind its terms, its chain, its right side, its node
 pub sides_made : (x us vs ws ys zs ps : List ℕ) (ns : Names) (at here free next : ℕ) (o : Comparison) (r : Terms) (l : Lin) (p : Run) (q : Chain) (n : Node) → 1810 ≤ free → p.end + 2 ≤ here → next ≡ n.next + 3 → Agree 0 free us vs → Agree 0 p.next vs ws → Agree 0 q.next ws ys

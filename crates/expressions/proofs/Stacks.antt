@@ -1,4 +1,8 @@
 -- Terms that wait. Assumes nothing.
+use denote.Enum.Declared.{tag_of}
+use Rattle.model.specs.contracts.Sign.{the_type}
+use Rattle.model.specs.declared.Sign.{Sign}
+use Rattle.model.specs.declared.Sign.TheVariants.{Positive, Negative}
 use Rattle.std.proofs.Common.{◌≡◌, ℕ, ◌+◌, ◌-◌, ◌<◌, ◌≤◌, List, [], ◌∷◌, length, set, sym, refl, ap, ◌∙◌, subst, arith, length-set}
 use Rattle.std.proofs.lemmas.List.{get_or-set_same, get_or-set_other}
 use Rattle.model.specs.Model as model
@@ -9,6 +13,14 @@ use Rattle.compose.proofs.Settled.{agree_self}
 use Rattle.expressions.specs.Made.{Zero}
 use Rattle.expressions.specs.Sums.{Item, sign_word, Stacked, chained}
 use Rattle.expressions.proofs.NumberTrees.{settled_on, zero_on, agree_back}
+
+-- a sign as a word is its number
+abbrev pub sign_tag : Sign → ℕ
+sign_tag g = tag_of the_type g + 12
+
+pub sign_is : (g : Sign) → sign_tag g ≡ sign_word g
+sign_is Positive = refl
+sign_is Negative = refl
 
 -- from depth on
 pub stacked_least : (ps : List ℕ) (n : ℕ) (ws : List ℕ) (depth : ℕ) (is : List Item) (d : ℕ) → Stacked ps n ws depth is d → depth ≤ d

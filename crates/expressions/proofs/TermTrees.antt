@@ -7,7 +7,7 @@ use Rattle.compose.specs.Agree.{Agree, Settled}
 use Rattle.compose.proofs.Trees.{amount_tree}
 use Rattle.grammar.specs.declared.Refusal.TheVariants.{Name, Range}
 use Rattle.grammar.specs.Grammar.{is_letter, Word, Num, Term, alone, times1, times2}
-use Rattle.grammar.specs.Reading.{ok, bad, then, byte, name, Names, find, an_array, array_there, one_place, num, place, after, after_num}
+use Rattle.grammar.specs.Reading.{ok, bad, then, byte, name, Names, find, an_array, array_there, one_place, num, place, after_num}
 use Rattle.grammar.specs.Says.{num_of, term_of, number_of, row_place, column_place}
 use Rattle.tokens.proofs.Steps.{then_ok}
 use Rattle.scope.specs.declared.Grid.{Grid}
@@ -21,19 +21,6 @@ use Rattle.expressions.proofs.Ways.{placed, place_as, then_then}
 use Rattle.expressions.proofs.NumberTrees.{settled_on, zero_on}
 
 -- WAYS
-
-module _ (x : List ℕ) (t : Term) (m : ℕ) where
-  pub after_stop : (byte x m ≡ 32 → ⊥) → after_at x t m ≡ ok (stops t) m
-  unfolding after
-  after_stop n = cond-false (eqb (byte x m) 32) _ _ (ne_eqb (byte x m) 32 n)
-
-  pub after_past : byte x m ≡ 32 → m ≡ 65536 → after_at x t m ≡ bad (Range 65536)
-  unfolding after
-  after_past e p = cond-true (eqb (byte x m) 32) _ _ (eq-eqb (byte x m) 32 e) ∙ cond-true (eqb m 65536) _ _ (eq-eqb m 65536 p)
-
-  pub after_space : byte x m ≡ 32 → (m ≡ 65536 → ⊥) → after_at x t m ≡ ok (goes_on t) (m + 1)
-  unfolding after
-  after_space e n = cond-true (eqb (byte x m) 32) _ _ (eq-eqb (byte x m) 32 e) ∙ cond-false (eqb m 65536) _ _ (ne_eqb m 65536 n)
 
 module _ (x : List ℕ) (ns : Names) (left : ℕ) (e : Num) (m : ℕ) where
   pub num_stop : (byte x m ≡ 32 → ⊥) → after_num_at x ns left e m ≡ ok (stops (alone e)) m

@@ -1,5 +1,5 @@
 -- Conditions part by part, and what stands behind `sum` or `all`. Assumes nothing.
-use Rattle.std.specs.Prelude.{◌≡◌, ℕ, ◌+◌, ◌*◌, ◌<◌, ◌≤◌, Bool, true, cond, List, length, Some, None, codes, Option, ◌==◌}
+use Rattle.std.specs.Prelude.{◌≡◌, ℕ, ◌+◌, ◌*◌, ◌≤◌, Bool, true, cond, List, length, Some, None, codes, Option, ◌==◌}
 use Rattle.compose.specs.Agree.{Settled}
 use Rattle.compose.specs.Writes.{filter_before}
 use Rattle.model.specs.declared.Relation.{Relation}

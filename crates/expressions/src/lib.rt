@@ -11,9 +11,13 @@
 // runs out, and no function on the way has to ask for it.
 #![tactic(auto)]
 
+pub mod conditions;
 mod context;
 pub mod nodes;
 pub mod numbers;
+pub mod rows;
+pub mod sums;
+pub mod terms;
 
 use compose::Name;
 

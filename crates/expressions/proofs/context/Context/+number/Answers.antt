@@ -1,7 +1,7 @@
-use Rattle.std.proofs.Common.{◌-◌, not, ◌&&◌, eqb, Ok, sym, ap, ◌∙◌, subst, arith}
+use Rattle.std.proofs.Common.{◌-◌, eqb, Ok, sym, ap, ◌∙◌, subst, arith}
 use Rattle.std.proofs.lemmas.Bool.{cond-false, ne_eqb}
 use Rattle.compose.proofs.Trees.{index_tree, entry_tree, joined_tree}
-use Rattle.grammar.specs.Grammar.{is_letter, joined, entry1, entry2, index}
+use Rattle.grammar.specs.Grammar.{joined, entry1, entry2, index}
 use Rattle.grammar.specs.Reading.{ok, num, pair}
 use Rattle.scope.specs.Names.{names_in, part}
 use Rattle.tokens.specs.Told.{Told}
@@ -18,8 +18,7 @@ named-returns-then-not-is_at-clause-told t c =
     let left = c.args.self.now.left in
     let name = c.args.name in
     let w = part x name in
-    let k = c.write-next.ensures in
-    (
+    let k = c.write-next.ensures in (
       index w,
       named_index x ns left (num x ns (left - 1)) name.begin w name.end c.in-Some.level (no_byte _ _ c.if-not-is_at.ensures) c.in-Some.ensures,
       index_made x c.args.words.now c.write-next.new.words name c.args.free c.write-next.result c.in-Some.level ns w c.requires.name.0 c.requires.name.1 c.requires.room.0 c.requires.room.1 c.in-Some.ensures k.next
@@ -48,8 +47,7 @@ named-returns-clause-told t c =
     let way = named_table x ns left (num x ns (left - 1)) name.begin w name.end g (is_byte _ _ c.if-not-is_at.ensures) f in
     let (l, h, p) = c.in_ok-cell.ensures.told in
     let k = c.write-next-2.ensures in
-    let cell = c.in_ok-cell.cell in
-    (
+    let cell = c.in_ok-cell.cell in (
       placed (entry1 w) (entry2 w) l,
       way ∙ then_ok _ h,
       entry_made x c.args.words.now c.places.new.words c.write-next-2.new.words name c.args.free c.write-next-2.result ns w g l cell c.requires.name.0 c.requires.room.1 f p k.next
@@ -128,8 +126,7 @@ pair-returns-clause-told t c =
     let k = c.write-next.ensures in
     let first = c.in_ok-first.first in
     let second = c.in_ok-second.second in
-    let q = c.in_ok-joined.joined.value in
-    (
+    let q = c.in_ok-joined.joined.value in (
       joined q e f,
       d ∙ then_ok _ h1 ∙ then_ok _ h2 ∙ then_ok _ h3 ∙ then_ok _ h4 ∙ then_ok _ h5 ∙ then_ok _ h6 ∙ then_ok _ h7 ∙ ap (λ y. ok (joined y e f) c.in_ok-end.end) p4.0,
       joined_made x c.args.words.now c.number.new.words c.number-2.new.words c.write-next.new.words c.args.at c.in_ok-inside.inside c.in_ok-here.here c.in_ok-end.end c.args.free
@@ -161,8 +158,7 @@ places-returns-then-is_at-clause-told t c =
     let (a, h1, p1) = c.in_ok-inside.ensures.told in
     let (f, h2, p2) = c.in_ok-first.ensures.told in
     let on = way ∙ then_ok _ h1 ∙ then_ok _ h2 ∙ after_comma x (enough g) c.args.start inner f c.in_ok-first.first.end (is_byte _ _ c.if-is_at.ensures) in
-    let (s, h3, p3) = c.in_ok-second.ensures.told in
-    (
+    let (s, h3, p3) = c.in_ok-second.ensures.told in (
       two_of f s,
       on ∙ then_ok _ h3,
       both_made x c.args.words.now c.number.new.words c.second_place.new.words c.args.at c.in_ok-inside.inside c.args.free ns g f s c.in_ok-first.first c.in_ok-second.second (omega arith) c.requires.room.1
@@ -207,9 +203,8 @@ places-returns-clause-told t c =
     let (f, h2, p2) = c.in_ok-first.ensures.told in
     let on = way ∙ then_ok _ h1 ∙ then_ok _ h2 ∙ after_one x (enough g) c.args.start inner f first.end (no_byte _ _ c.if-is_at.ensures) (sym c.if-needs_second.ensures) in
     let (s, h3, p3) = c.in_ok-end.ensures.told in
-    subst (λ r. Told (λ p. p.end) (PlacesMade x ns g c.args.at c.args.free c.args.words.now c.number.new.words) (place_at x g c.args.start left inner c.args.at) (Ok r)) (sym c.only_place.ensures)
-        (
-          one_of f,
-          on ∙ then_ok _ h3 ∙ ap (ok (one_of f)) (sym (only_end g first c.in_ok-end.end)),
-          only_made x c.args.words.now c.number.new.words c.args.at c.in_ok-inside.inside c.in_ok-end.end c.args.free ns g f first (omega arith) (omega arith) (p3.1 p2.inside) (p3.2 p2.short) c.requires.room.1 c.number.ensures.kept p2,
-        )
+    subst (λ r. Told (λ p. p.end) (PlacesMade x ns g c.args.at c.args.free c.args.words.now c.number.new.words) (place_at x g c.args.start left inner c.args.at) (Ok r)) (sym c.only_place.ensures) (
+      one_of f,
+      on ∙ then_ok _ h3 ∙ ap (ok (one_of f)) (sym (only_end g first c.in_ok-end.end)),
+      only_made x c.args.words.now c.number.new.words c.args.at c.in_ok-inside.inside c.in_ok-end.end c.args.free ns g f first (omega arith) (omega arith) (p3.1 p2.inside) (p3.2 p2.short) c.requires.room.1 c.number.ensures.kept p2,
+    )
