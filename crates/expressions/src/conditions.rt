@@ -15,21 +15,18 @@ use crate::{Bound, Filter, Node, RelationAt};
 use compose::Name;
 use grammar::Refusal;
 use model::Relation;
-use scope::Symbol;
-use scope::names::{find, indexes, with_name};
-use scope::scopes::Scope;
-use tokens::{LONGEST, literal, look, name};
+use scope::{Scope, Symbol};
+use tokens::{LONGEST, is_at, literal, look, name};
 
 // The relation at a place.
+#[tactic(auto, using(crate::proofs::Signs::relation_none))]
 fn relation(text: &[u8], at: usize) -> Result<RelationAt, Refusal>
     requires { at ≤ 65536 }
     ensures told { Told (λ p. p.end) (Relates text.now at) (relation_at text.now at) result }
 {
     match look(text, at) {
-        // =
-        61 => equal(text, at),
-        // <
-        60 => less_or_differ(text, at),
+        Some(b'=') => equal(text, at),
+        Some(b'<') => less_or_differ(text, at),
         _ => Err(Refusal::Syntax(at)),
     }
 }
@@ -57,7 +54,7 @@ fn less_or_differ(text: &[u8], at: usize) -> Result<RelationAt, Refusal>
         return Err(Refusal::Range(LONGEST));
     }
     let end = at + 1;
-    if look(text, end) != 62 {
+    if !is_at(text, end, b'>') {
         return Ok(RelationAt {
             relation: Relation::Less,
             end,
@@ -118,7 +115,7 @@ fn condition(
     ensures kept { Agree 0 free words.old words.new }
 {
     let mut all = compared(text, scope, words, free, left, at)?;
-    while look(text, all.end) == 32 {
+    while is_at(text, all.end, b' ') {
         let here = literal(text, b" and ", all.end)?;
         let part = compared(text, scope, words, all.next, left, here)?;
         let next = both_node(words, part.next, all.place, part.place);
@@ -152,7 +149,7 @@ pub(crate) fn bound(
     let begin = literal(text, b" ", end)?;
     let end = name(text, begin)?;
     let index = Name { begin, end };
-    if find(text, scope, index).is_some() {
+    if scope.find(text, index).is_some() {
         return Err(Refusal::Name(begin));
     }
     Ok(Bound { set, index })
@@ -160,12 +157,11 @@ pub(crate) fn bound(
 
 // The scope inside a sum or an all, with its index.
 pub(crate) fn inside(text: &[u8], scope: &Scope, index: Name) -> Scope
-    requires room { scope.now.count < 56 }
+    requires room { length scope.now < 56 }
     ensures names { names_in text.now result ≡ with_index (part text.now index) (names_in text.now scope.now) }
-    ensures count { result.count ≡ scope.now.count + 1 }
+    ensures count { length result ≡ length scope.now + 1 }
 {
-    let level = indexes(scope);
-    with_name(scope, index, Symbol::Index(level))
+    scope.with(index, Symbol::Index(scope.indexes()))
 }
 
 // The condition behind `where`, if there is one, and the colon.
@@ -182,7 +178,7 @@ pub(crate) fn filter(
     ensures told { Told (λ p. p.end) (FilterMade text.now (names_in text.now scope.now) at free words.old words.new) (filter_at text.now (names_in text.now scope.now) left (length text.now + 1) at) result }
     ensures kept { Agree 0 free words.old words.new }
 {
-    if look(text, at) != 32 {
+    if !is_at(text, at, b' ') {
         let end = literal(text, b": ", at)?;
         return Ok(Filter {
             condition: None,

@@ -5,11 +5,11 @@ ghost use Rattle.compose.specs.Writes.{filter_before};
 ghost use Rattle.model.specs.Kept.{NumIn, CondIn, FilterIn, LinIn, ConstraintIn};
 ghost use Rattle.model.specs.Model.{Num, fixed, index, entry, joined, Cond, relate, both, Lin, term as term_of, chain, sum_over, Constraint, compare, for_all};
 
-use compose::nodes::{
-    put_all, put_both, put_chain, put_compare, put_entry, put_fixed, put_index, put_operation,
-    put_relation, put_sum, put_term,
+use compose::nodes::Node;
+use model::{
+    Comparison, CondNode, ConstraintNode, LinNode, NumNode, Operator, Over, Relation, Sign,
+    TermNode,
 };
-use model::{Comparison, Operator, Over, Relation, Sign, TermNode};
 
 // A number as it is.
 pub(crate) fn fixed_node(words: &mut [u64], free: usize, number: i64) -> usize
@@ -18,7 +18,7 @@ pub(crate) fn fixed_node(words: &mut [u64], free: usize, number: i64) -> usize
     ensures kept { Agree 0 free words.old words.new }
     ensures tree { Settled 1808 (free + 2) words.new (λ us. NumIn us free (fixed number)) }
 {
-    let Some(next) = put_fixed(words, free, number) else {
+    let Some(next) = NumNode::Fixed(number).put(words, free) else {
         return free;
     };
     next
@@ -31,7 +31,7 @@ pub(crate) fn index_node(words: &mut [u64], free: usize, level: usize) -> usize
     ensures kept { Agree 0 free words.old words.new }
     ensures tree { Settled 1808 (free + 2) words.new (λ us. NumIn us free (index level)) }
 {
-    let Some(next) = put_index(words, free, level) else {
+    let Some(next) = NumNode::Index(level).put(words, free) else {
         return free;
     };
     next
@@ -51,7 +51,7 @@ pub(crate) fn entry_node(
     ensures kept { Agree 0 free words.old words.new }
     ensures tree { (e f : Num) → Settled 1808 free words.old (λ us. NumIn us left e) → Settled 1808 free words.old (λ us. NumIn us right f) → Settled 1808 (free + 4) words.new (λ us. NumIn us free (entry table e f)) }
 {
-    let Some(next) = put_entry(words, free, table, left, right) else {
+    let Some(next) = NumNode::Entry(table, left, right).put(words, free) else {
         return free;
     };
     next
@@ -71,7 +71,7 @@ pub(crate) fn operation_node(
     ensures kept { Agree 0 free words.old words.new }
     ensures tree { (e f : Num) → Settled 1808 free words.old (λ us. NumIn us left e) → Settled 1808 free words.old (λ us. NumIn us right f) → Settled 1808 (free + 3) words.new (λ us. NumIn us free (joined operator e f)) }
 {
-    let Some(next) = put_operation(words, free, operator, left, right) else {
+    let Some(next) = NumNode::Op(operator, left, right).put(words, free) else {
         return free;
     };
     next
@@ -91,7 +91,7 @@ pub(crate) fn relation_node(
     ensures kept { Agree 0 free words.old words.new }
     ensures tree { (e f : Num) → Settled 1808 free words.old (λ us. NumIn us left e) → Settled 1808 free words.old (λ us. NumIn us right f) → Settled 1808 (free + 3) words.new (λ us. CondIn us free (relate relation e f)) }
 {
-    let Some(next) = put_relation(words, free, relation, left, right) else {
+    let Some(next) = CondNode::Relate(relation, left, right).put(words, free) else {
         return free;
     };
     next
@@ -105,7 +105,7 @@ pub(crate) fn both_node(words: &mut [u64], free: usize, left: usize, right: usiz
     ensures kept { Agree 0 free words.old words.new }
     ensures tree { (e f : Cond) → Settled 1808 free words.old (λ us. CondIn us left e) → Settled 1808 free words.old (λ us. CondIn us right f) → Settled 1808 (free + 3) words.new (λ us. CondIn us free (both e f)) }
 {
-    let Some(next) = put_both(words, free, left, right) else {
+    let Some(next) = CondNode::Both(left, right).put(words, free) else {
         return free;
     };
     next
@@ -119,7 +119,7 @@ pub(crate) fn term_node(words: &mut [u64], free: usize, term: TermNode) -> usize
     ensures kept { Agree 0 free words.old words.new }
     ensures tree { (e f g : Num) → Settled 1808 free words.old (λ us. NumIn us term.number e) → Settled 1808 free words.old (λ us. NumIn us term.row f) → Settled 1808 free words.old (λ us. NumIn us term.column g) → Settled 1808 (free + 5) words.new (λ us. LinIn us free (term_of e term.array f g)) }
 {
-    let Some(next) = put_term(words, free, term) else {
+    let Some(next) = LinNode::Term(term).put(words, free) else {
         return free;
     };
     next
@@ -139,7 +139,7 @@ pub(crate) fn chain_node(
     ensures kept { Agree 0 free words.old words.new }
     ensures tree { (e f : Lin) → Settled 1808 free words.old (λ us. LinIn us left e) → Settled 1808 free words.old (λ us. LinIn us right f) → Settled 1808 (free + 3) words.new (λ us. LinIn us free (chain sign e f)) }
 {
-    let Some(next) = put_chain(words, free, sign, left, right) else {
+    let Some(next) = LinNode::Chain(sign, left, right).put(words, free) else {
         return free;
     };
     next
@@ -153,7 +153,7 @@ pub(crate) fn sum_node(words: &mut [u64], free: usize, over: Over) -> usize
     ensures kept { Agree 0 free words.old words.new }
     ensures tree { (d : Option Cond) (a : Lin) → Settled 1808 free words.old (λ us. FilterIn us over.filter d) → Settled 1808 free words.old (λ us. LinIn us over.body a) → Settled 1808 (free + 4) words.new (λ us. LinIn us free (sum_over over.set d a)) }
 {
-    let Some(next) = put_sum(words, free, over) else {
+    let Some(next) = LinNode::Sum(over).put(words, free) else {
         return free;
     };
     next
@@ -173,7 +173,7 @@ pub(crate) fn compare_node(
     ensures kept { Agree 0 free words.old words.new }
     ensures tree { (e f : Lin) → Settled 1808 free words.old (λ us. LinIn us left e) → Settled 1808 free words.old (λ us. LinIn us right f) → Settled 1808 (free + 3) words.new (λ us. ConstraintIn us free (compare comparison e f)) }
 {
-    let Some(next) = put_compare(words, free, comparison, left, right) else {
+    let Some(next) = ConstraintNode::Compare(comparison, left, right).put(words, free) else {
         return free;
     };
     next
@@ -187,7 +187,7 @@ pub(crate) fn all_node(words: &mut [u64], free: usize, over: Over) -> usize
     ensures kept { Agree 0 free words.old words.new }
     ensures tree { (d : Option Cond) (a : Constraint) → Settled 1808 free words.old (λ us. FilterIn us over.filter d) → Settled 1808 free words.old (λ us. ConstraintIn us over.body a) → Settled 1808 (free + 4) words.new (λ us. ConstraintIn us free (for_all over.set d a)) }
 {
-    let Some(next) = put_all(words, free, over) else {
+    let Some(next) = ConstraintNode::All(over).put(words, free) else {
         return free;
     };
     next

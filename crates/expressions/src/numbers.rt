@@ -7,7 +7,7 @@ ghost use Rattle.compose.specs.Agree.{Agree};
 ghost use Rattle.expressions.specs.Made.{Room, NumMade};
 ghost use Rattle.expressions.specs.Places.{PlacesMade, enough, only_place, place_at, second_at};
 ghost use Rattle.expressions.specs.Signs.{operator_of};
-ghost use Rattle.grammar.specs.Reading.{Names, fixed_at, named as named_at, num as num_at, operator as operator_at, pair as pair_at};
+ghost use Rattle.grammar.specs.Reading.{Names, byte, fixed_at, named as named_at, num as num_at, operator as operator_at, pair as pair_at};
 ghost use Rattle.scope.specs.Names.{names_in, part};
 ghost use Rattle.tokens.specs.Told.{Told};
 
@@ -17,21 +17,20 @@ use crate::{Node, Places};
 use compose::{FIRST_NODE, Name};
 use grammar::Refusal;
 use model::Operator;
-use scope::Grid;
-use scope::scopes::Scope;
-use tokens::{LONGEST, is_letter, literal, look, name, numeral, value_of};
+use scope::{Grid, Scope};
+use tokens::{LONGEST, is_at, is_letter_at, literal, look, name, numeral};
 
 // Numbers in a text are below this in size.
-const NUMBER_LIMIT: u32 = 1_000_000;
+const NUMBER_LIMIT: u64 = 1_000_000;
 
-// The operator that a byte is.
-fn operator_byte(c: u16) -> Option<Operator>
-    ensures { result ≡ operator_of c }
+// The operator whose byte stands at a place.
+fn operator_byte(text: &[u8], at: usize) -> Option<Operator>
+    ensures { result ≡ operator_of (byte text.now at) }
 {
-    match c {
-        43 => Some(Operator::Plus),
-        45 => Some(Operator::Minus),
-        42 => Some(Operator::Times),
+    match look(text, at) {
+        Some(b'+') => Some(Operator::Plus),
+        Some(b'-') => Some(Operator::Minus),
+        Some(b'*') => Some(Operator::Times),
         _ => None,
     }
 }
@@ -40,7 +39,7 @@ fn operator_byte(c: u16) -> Option<Operator>
 fn operator(text: &[u8], at: usize) -> Result<Operator, Refusal>
     ensures told { Told (λ _. at + 1) (λ o p. (o ≡ p) × (at < length text.now) × (at ≤ 65536 → at + 1 ≤ 65536)) (operator_at text.now at) result }
 {
-    let Some(operator) = operator_byte(look(text, at)) else {
+    let Some(operator) = operator_byte(text, at) else {
         return Err(Refusal::Syntax(at));
     };
     if at == LONGEST {
@@ -56,10 +55,10 @@ fn fixed(text: &[u8], words: &mut [u64], free: usize, at: usize) -> Result<Node,
     ensures kept { Agree 0 free words.old words.new }
 {
     let number = numeral(text, at)?;
-    if number.size >= NUMBER_LIMIT {
+    if number.value.unsigned_abs() >= NUMBER_LIMIT {
         return Err(Refusal::Range(at));
     }
-    let next = fixed_node(words, free, value_of(number));
+    let next = fixed_node(words, free, number.value);
     Ok(Node {
         place: free,
         next,
@@ -94,10 +93,10 @@ fn only_place(grid: Grid, first: Node, end: usize) -> Places
 }
 
 // Whether the bracket closes behind one place where two are wanted.
-fn needs_second(c: u16, grid: Grid) -> bool
-    ensures { result ≡ (c == 93 && not (enough grid)) }
+fn needs_second(text: &[u8], at: usize, grid: Grid) -> bool
+    ensures { result ≡ (byte text.now at == 93 && not (enough grid)) }
 {
-    c == 93 && !(grid.columns == 1 || grid.rows == 1)
+    is_at(text, at, b']') && !(grid.columns == 1 || grid.rows == 1)
 }
 
 // What stands in square brackets at a place, behind a name that begins at `start`: one number, where
@@ -118,7 +117,7 @@ pub(crate) fn places(
         (place_at text.now grid start left (num_at text.now (names_in text.now scope.now) (left - 1)) at) result }
     ensures kept { Agree 0 free words.old words.new }
 {
-    if look(text, at) != 91 {
+    if !is_at(text, at, b'[') {
         return Err(Refusal::Syntax(at));
     }
     if left == 0 {
@@ -126,8 +125,7 @@ pub(crate) fn places(
     }
     let inside = literal(text, b"[", at)?;
     let first = number(text, scope, words, free, left - 1, inside)?;
-    let c = look(text, first.end);
-    if c == 44 {
+    if is_at(text, first.end, b',') {
         let second = second_place(text, scope, words, first.next, left - 1, first.end)?;
         return Ok(Places {
             row: first.place,
@@ -136,7 +134,7 @@ pub(crate) fn places(
             end: second.end,
         });
     }
-    if needs_second(c, grid) {
+    if needs_second(text, first.end, grid) {
         return Err(Refusal::Name(start));
     }
     let end = literal(text, b"]", first.end)?;
@@ -183,7 +181,7 @@ pub(crate) fn named(
         (named_at text.now (names_in text.now scope.now) left (num_at text.now (names_in text.now scope.now) (left - 1)) name.begin (part text.now name) name.end) result }
     ensures kept { Agree 0 free words.old words.new }
 {
-    if look(text, name.end) != 91 {
+    if !is_at(text, name.end, b'[') {
         let Some(level) = find_index(text, scope, name) else {
             return Err(Refusal::Name(name.begin));
         };
@@ -252,11 +250,10 @@ pub(crate) fn number(
     ensures told { Told (λ p. p.end) (NumMade text.now (names_in text.now scope.now) at free words.old words.new) (num_at text.now (names_in text.now scope.now) left at) result }
     ensures kept { Agree 0 free words.old words.new }
 {
-    let c = look(text, at);
-    if c == 40 {
+    if is_at(text, at, b'(') {
         return pair(text, scope, words, free, left, at);
     }
-    if !is_letter(c) {
+    if !is_letter_at(text, at) {
         return fixed(text, words, free, at);
     }
     let end = name(text, at)?;

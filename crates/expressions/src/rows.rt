@@ -14,7 +14,7 @@ use crate::sums::{chain, linear, terms};
 use crate::{ComparisonAt, Node};
 use grammar::Refusal;
 use model::{Comparison, Over};
-use scope::scopes::Scope;
+use scope::Scope;
 use tokens::{LONGEST, literal, look, word};
 
 // Brackets stand within each other at most so deep, and so do sums and alls.
@@ -59,17 +59,15 @@ fn exactly(text: &[u8], at: usize) -> Result<ComparisonAt, Refusal>
 }
 
 // The comparison at a place.
+#[tactic(auto, using(crate::proofs::RowWays::comparisons))]
 fn comparison(text: &[u8], at: usize) -> Result<ComparisonAt, Refusal>
     requires { at ≤ 65536 }
     ensures told { Told (λ p. p.end) (Compares text.now at) (comparison_at text.now at) result }
 {
     match look(text, at) {
-        // <
-        60 => with_equals(text, at, Comparison::AtMost),
-        // >
-        62 => with_equals(text, at, Comparison::AtLeast),
-        // =
-        61 => exactly(text, at),
+        Some(b'<') => with_equals(text, at, Comparison::AtMost),
+        Some(b'>') => with_equals(text, at, Comparison::AtLeast),
+        Some(b'=') => exactly(text, at),
         _ => Err(Refusal::Syntax(at)),
     }
 }
@@ -108,7 +106,7 @@ fn sides(
 ) -> Result<Node, Refusal>
     requires room { Room (length words.old) free at }
     requires waiting { 32772 ≤ length pending.old }
-    requires scoped { scope.now.count + nest ≤ 56 }
+    requires scoped { length scope.now + nest ≤ 56 }
     requires inside { at ≤ length text.now }
     ensures told { Told (λ p. p.end) (RowMade text.now (names_in text.now scope.now) at free words.old words.new) (sides_at text.now (names_in text.now scope.now) (length text.now + 1) nest at) result }
     ensures kept { Agree 0 free words.old words.new }
@@ -167,7 +165,7 @@ fn row(
 ) -> Result<Node, Refusal>
     requires room { Room (length words.old) free at }
     requires waiting { 32772 ≤ length pending.old }
-    requires scoped { scope.now.count + nest ≤ 56 }
+    requires scoped { length scope.now + nest ≤ 56 }
     requires inside { at ≤ length text.now }
     ensures told { Told (λ p. p.end) (RowMade text.now (names_in text.now scope.now) at free words.old words.new) (row_at text.now (length text.now + 1) nest (names_in text.now scope.now) at) result }
     ensures kept { Agree 0 free words.old words.new }
@@ -218,7 +216,7 @@ pub fn linear_sum(
     free: usize,
     at: usize,
 ) -> Option<Result<Node, Refusal>>
-    ensures ready { is_some result ≡ is_ready (length text.now) (length words.old) (length pending.old) scope.now.count free at }
+    ensures ready { is_some result ≡ is_ready (length text.now) (length words.old) (length pending.old) (length scope.now) free at }
     ensures refused { result ≡ None → words.new ≡ words.old }
     ensures spared { result ≡ None → pending.new ≡ pending.old }
     ensures told { IfSome result (λ q. Told (λ p. p.end) (LinMade text.now (names_in text.now scope.now) at free words.old words.new) (lin_at text.now (length text.now + 1) 8 (names_in text.now scope.now) 64 at) q) }
@@ -228,7 +226,7 @@ pub fn linear_sum(
         text.len(),
         words.len(),
         pending.len(),
-        scope.count,
+        scope.len(),
         free,
         at,
     ) {
@@ -256,7 +254,7 @@ pub fn constraint(
     free: usize,
     at: usize,
 ) -> Option<Result<Node, Refusal>>
-    ensures ready { is_some result ≡ is_ready (length text.now) (length words.old) (length pending.old) scope.now.count free at }
+    ensures ready { is_some result ≡ is_ready (length text.now) (length words.old) (length pending.old) (length scope.now) free at }
     ensures refused { result ≡ None → words.new ≡ words.old }
     ensures spared { result ≡ None → pending.new ≡ pending.old }
     ensures told { IfSome result (λ q. Told (λ p. p.end) (RowMade text.now (names_in text.now scope.now) at free words.old words.new) (row_at text.now (length text.now + 1) 8 (names_in text.now scope.now) at) q) }
@@ -266,7 +264,7 @@ pub fn constraint(
         text.len(),
         words.len(),
         pending.len(),
-        scope.count,
+        scope.len(),
         free,
         at,
     ) {

@@ -8,7 +8,7 @@ ghost use Rattle.compose.specs.Agree.{Agree, Settled};
 ghost use Rattle.expressions.specs.Made.{Made, Room, Zero};
 ghost use Rattle.expressions.specs.Sums.{Follow, Item, Leads, LinMade, SignRead, Stacked, TermMade, TermsMade, Waiting, chained, deep_of, followed, inner_of, sign_after, sign_end, sign_of as signed_by, sign_word as word_of, term_at, terms_at};
 ghost use Rattle.grammar.specs.Grammar.{Term};
-ghost use Rattle.grammar.specs.Reading.{lin as lin_at, sign as sign_at, sum_at};
+ghost use Rattle.grammar.specs.Reading.{byte, lin as lin_at, sign as sign_at, sum_at};
 ghost use Rattle.grammar.specs.Says.{term_of};
 ghost use Rattle.model.specs.Kept.{LinIn};
 ghost use Rattle.model.specs.Model.{nothing};
@@ -24,16 +24,16 @@ use crate::{Chain, Lead, Node, Run, SignAt, TermAt};
 use compose::Name;
 use grammar::Refusal;
 use model::{Over, Sign};
-use scope::scopes::Scope;
-use tokens::{LONGEST, is_letter, literal, look, reserved_word, word};
+use scope::Scope;
+use tokens::{LONGEST, is_at, is_letter_at, literal, look, reserved_word, word};
 
-// The sign that a byte is.
-fn sign_byte(c: u16) -> Option<Sign>
-    ensures { result ≡ signed_by c }
+// The sign that stands at a place.
+fn sign_byte(text: &[u8], at: usize) -> Option<Sign>
+    ensures { result ≡ signed_by (byte text.now at) }
 {
-    match c {
-        43 => Some(Sign::Positive),
-        45 => Some(Sign::Negative),
+    match look(text, at) {
+        Some(b'+') => Some(Sign::Positive),
+        Some(b'-') => Some(Sign::Negative),
         _ => None,
     }
 }
@@ -67,7 +67,7 @@ fn sign_after(text: &[u8], term: TermAt) -> Result<Option<SignAt>, Refusal>
     if !term.spaced {
         return Ok(None);
     }
-    let Some(sign) = sign_byte(look(text, end)) else {
+    let Some(sign) = sign_byte(text, end) else {
         return Ok(None);
     };
     if end == LONGEST {
@@ -141,7 +141,7 @@ fn sum(
 ) -> Result<Node, Refusal>
     requires room { Room (length words.old) free at }
     requires waiting { Waiting (length pending.old) depth at }
-    requires scoped { scope.now.count + nest ≤ 56 }
+    requires scoped { length scope.now + nest ≤ 56 }
     requires start { start + 3 ≤ at }
     ensures told { Told (λ p. p.end) (λ t p. Made text.now start free 3 words.old words.new (λ vs k. LinIn vs k (term_of (names_in text.now scope.now) t)) p) (sum_at text.now (names_in text.now scope.now) left (length text.now + 1) (deep_of nest) (inner_of text.now (length text.now + 1) nest) start at) result }
     ensures kept { Agree 0 free words.old words.new }
@@ -150,7 +150,7 @@ fn sum(
     let over = bound(text, scope, nest == 0, start, at)?;
     let inner = inside(text, scope, over.index);
     let only = filter(text, &inner, words, free, left, over.index.end)?;
-    if look(text, only.end) != 40 {
+    if !is_at(text, only.end, b'(') {
         return Err(Refusal::Syntax(only.end));
     }
     if left == 0 {
@@ -197,12 +197,12 @@ fn term(
 ) -> Result<TermAt, Refusal>
     requires room { Room (length words.old) free at }
     requires waiting { Waiting (length pending.old) depth at }
-    requires scoped { scope.now.count + nest ≤ 56 }
+    requires scoped { length scope.now + nest ≤ 56 }
     ensures told { Told (λ p. p.node.end) (TermMade text.now (names_in text.now scope.now) at free words.old words.new) (term_at text.now (names_in text.now scope.now) left (length text.now + 1) nest at) result }
     ensures kept { Agree 0 free words.old words.new }
     ensures held { Agree 0 depth pending.old pending.new }
 {
-    if !is_letter(look(text, at)) {
+    if !is_letter_at(text, at) {
         let first = number(text, scope, words, free, left, at)?;
         return after_number(text, scope, words, left, first);
     }
@@ -237,7 +237,7 @@ pub(crate) fn terms(
 ) -> Result<Run, Refusal>
     requires room { Room (length words.old) free at }
     requires waiting { Waiting (length pending.old) depth at }
-    requires scoped { scope.now.count + nest ≤ 56 }
+    requires scoped { length scope.now + nest ≤ 56 }
     requires inside { at ≤ length text.now }
     ensures told { (turns : ℕ) → length text.now < turns + at → Told (λ p. p.end) (TermsMade text.now (names_in text.now scope.now) at free depth pending.new words.new) (terms_at text.now (names_in text.now scope.now) left (length text.now + 1) nest turns at) result }
     ensures kept { Agree 0 free words.old words.new }
@@ -281,7 +281,7 @@ pub(crate) fn linear(
 ) -> Result<Node, Refusal>
     requires room { Room (length words.old) free at }
     requires waiting { Waiting (length pending.old) depth at }
-    requires scoped { scope.now.count + nest ≤ 56 }
+    requires scoped { length scope.now + nest ≤ 56 }
     requires inside { at ≤ length text.now }
     ensures told { Told (λ p. p.end) (LinMade text.now (names_in text.now scope.now) at free words.old words.new) (lin_at text.now (length text.now + 1) nest (names_in text.now scope.now) left at) result }
     ensures kept { Agree 0 free words.old words.new }

@@ -14,8 +14,8 @@ use crate::{Node, TermAt};
 use compose::Name;
 use grammar::Refusal;
 use model::TermNode;
-use scope::scopes::Scope;
-use tokens::{LONGEST, is_letter, look, name};
+use scope::Scope;
+use tokens::{LONGEST, is_at, is_letter_at, name};
 
 // What follows a term: a space, which is read, or not.
 pub(crate) fn after(text: &[u8], node: Node) -> Result<TermAt, Refusal>
@@ -24,7 +24,7 @@ pub(crate) fn after(text: &[u8], node: Node) -> Result<TermAt, Refusal>
     ensures told { (t : Term) → Told (λ p. p.node.end) (Spaced text.now node t) (after_at text.now t node.end) result }
 {
     let end = node.end;
-    if look(text, end) != 32 {
+    if !is_at(text, end, b' ') {
         return Ok(TermAt {
             node,
             spaced: false,
@@ -95,7 +95,7 @@ pub(crate) fn after_number(
     ensures kept { Agree 0 number.next words.old words.new }
 {
     let end = number.end;
-    if look(text, end) != 32 {
+    if !is_at(text, end, b' ') {
         return Ok(TermAt {
             node: number,
             spaced: false,
@@ -105,7 +105,7 @@ pub(crate) fn after_number(
         return Err(Refusal::Range(LONGEST));
     }
     let here = end + 1;
-    if is_letter(look(text, here)) {
+    if is_letter_at(text, here) {
         return variable(text, scope, words, left, number, here);
     }
     Ok(TermAt {

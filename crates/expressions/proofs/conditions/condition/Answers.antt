@@ -1,4 +1,5 @@
 use Rattle.std.proofs.Common.{◌≡◌, suc, ◌-◌, [], ◌∷◌, ◌++◌, length, sym, ap, ◌∙◌, subst, add-one, arith}
+use Rattle.std.proofs.lemmas.Bool.{eqb-true, eqb-false}
 use Rattle.compose.proofs.Settled.{agree_self}
 use Rattle.grammar.specs.Reading.{condition, num}
 use Rattle.scope.specs.Names.{names_in}
@@ -45,7 +46,7 @@ returns-in_err-here c =
     let free = c.args.free in
     let all = c.loop-all.all in
     let (ks, k, f, l, m, r) = c.loop-all.invariant.1 in
-    let e = sym c.look.ensures ∙ c.loop-all-test.true in
+    let e = eqb-true _ _ (sym c.loop-all-test.ensures) in
     let begun = agree_more free free c.args.words.now c.compared.new.words c.loop-all.words (omega arith) c.compared.ensures.kept c.loop-all.invariant.0 in
     record {
       told = told_exit _ _ _ _ c.from_residual-in_err-here.result c.from_residual-in_err-here.ensures.1 (r ∙ rest_broken x number ks k f all.end _ e c.in_err-here.ensures.told);
@@ -60,7 +61,7 @@ returns-in_err-part c =
     let free = c.args.free in
     let all = c.loop-all.all in
     let (ks, k, f, l, m, r) = c.loop-all.invariant.1 in
-    let e = sym c.look.ensures ∙ c.loop-all-test.true in
+    let e = eqb-true _ _ (sym c.loop-all-test.ensures) in
     let begun = agree_more free free c.args.words.now c.compared.new.words c.loop-all.words (omega arith) c.compared.ensures.kept c.loop-all.invariant.0 in
     let (u, h, p) = c.in_ok-here.ensures.told in
     let i = inside x all.end (omega arith) in
@@ -79,7 +80,7 @@ loop-all-preserved c =
     let free = c.args.free in
     let all = c.loop-all.all in
     let (ks, k, f, l, m, r) = c.loop-all.invariant.1 in
-    let e = sym c.look.ensures ∙ c.loop-all-test.true in
+    let e = eqb-true _ _ (sym c.loop-all-test.ensures) in
     let begun = agree_more free free c.args.words.now c.compared.new.words c.loop-all.words (omega arith) c.compared.ensures.kept c.loop-all.invariant.0 in
     let (u, h, p) = c.in_ok-here.ensures.told in
     let (j, g, q) = c.in_ok-part.ensures.told in
@@ -113,7 +114,7 @@ returns c =
     record {
       told = (
         all_of ks k,
-        r ∙ rest_ended x number ks k f all.end (λ e. c.loop-all-test.false (c.look.ensures ∙ e)),
+        r ∙ rest_ended x number ks k f all.end (eqb-false _ _ (sym c.loop-all-test.ensures)),
         made_from (zero_on free c.args.words.now c.compared.new.words c.requires.room.1 s) m,
       );
       kept = agree_more free free c.args.words.now c.compared.new.words c.loop-all.words (omega arith) s c.loop-all.invariant.0;

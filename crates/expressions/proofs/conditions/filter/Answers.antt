@@ -1,5 +1,5 @@
 use Rattle.std.proofs.Common.{eqb, Some, None, sym, ◌∙◌, arith}
-use Rattle.std.proofs.lemmas.Bool.{cond-true, cond-false, eq-eqb, ne_eqb}
+use Rattle.std.proofs.lemmas.Bool.{cond-true, cond-false, eq-eqb, ne_eqb, eqb-true, eqb-false}
 use Rattle.compose.proofs.Settled.{agree_self}
 use Rattle.grammar.specs.Reading.{byte}
 use Rattle.scope.specs.Names.{names_in}
@@ -13,15 +13,15 @@ unfolding filter_at
 returns-in_err-end c =
     let x = c.args.text.now in
     let at = c.args.at in
-    let way = cond-false (eqb (byte x at) 32) _ _ (ne_eqb (byte x at) 32 (λ e. c.if-look-ne32.true (c.look.ensures ∙ e))) in
+    let way = cond-false (eqb (byte x at) 32) _ _ (ne_eqb (byte x at) 32 (eqb-false _ _ (sym c.if-not-is_at.ensures))) in
     record { told = told_exit _ _ _ _ c.from_residual.result c.from_residual.ensures.1 (way ∙ then_bad _ c.in_err-end.ensures.told); kept = agree_self _ _ _ }
 
-pub returns-then-look-ne32 : goal.returns-then-look-ne32
+pub returns-then-not-is_at : goal.returns-then-not-is_at
 unfolding filter_at
-returns-then-look-ne32 c =
+returns-then-not-is_at c =
     let x = c.args.text.now in
     let at = c.args.at in
-    let way = cond-false (eqb (byte x at) 32) _ _ (ne_eqb (byte x at) 32 (λ e. c.if-look-ne32.true (c.look.ensures ∙ e))) in
+    let way = cond-false (eqb (byte x at) 32) _ _ (ne_eqb (byte x at) 32 (eqb-false _ _ (sym c.if-not-is_at.ensures))) in
     let (u, h, p) = c.in_ok-end.ensures.told in
     record { told = (None, way ∙ then_ok _ h, no_filter_made x c.args.words.now c.args.words.now at c.in_ok-end.end c.args.free (names_in x c.args.scope.now) (sym p.0) (p.1 c.requires.inside) (p.2 c.requires.room.0)); kept = agree_self _ _ _ }
 
@@ -30,7 +30,7 @@ unfolding filter_at
 returns-in_err-here c =
     let x = c.args.text.now in
     let at = c.args.at in
-    let b = sym c.look.ensures ∙ c.if-look-ne32.false in
+    let b = eqb-true _ _ (sym c.if-not-is_at.ensures) in
     let way = cond-true (eqb (byte x at) 32) _ _ (eq-eqb (byte x at) 32 b) in
     record { told = told_exit _ _ _ _ c.from_residual-in_err-here.result c.from_residual-in_err-here.ensures.1 (way ∙ then_bad _ c.in_err-here.ensures.told); kept = agree_self _ _ _ }
 
@@ -39,7 +39,7 @@ unfolding filter_at
 returns-in_err-only c =
     let x = c.args.text.now in
     let at = c.args.at in
-    let b = sym c.look.ensures ∙ c.if-look-ne32.false in
+    let b = eqb-true _ _ (sym c.if-not-is_at.ensures) in
     let way = cond-true (eqb (byte x at) 32) _ _ (eq-eqb (byte x at) 32 b) in
     let (u, h, p) = c.in_ok-here.ensures.told in
     record { told = told_exit _ _ _ _ c.from_residual-in_err-only.result c.from_residual-in_err-only.ensures.1 (way ∙ then_ok _ h ∙ then_bad _ c.in_err-only.ensures.told); kept = c.condition.ensures.kept }
@@ -49,7 +49,7 @@ unfolding filter_at
 returns-in_err-end-2 c =
     let x = c.args.text.now in
     let at = c.args.at in
-    let b = sym c.look.ensures ∙ c.if-look-ne32.false in
+    let b = eqb-true _ _ (sym c.if-not-is_at.ensures) in
     let way = cond-true (eqb (byte x at) 32) _ _ (eq-eqb (byte x at) 32 b) in
     let (u, h, p) = c.in_ok-here.ensures.told in
     let (d, g, q) = c.in_ok-only.ensures.told in
@@ -60,7 +60,7 @@ unfolding filter_at
 returns c =
     let x = c.args.text.now in
     let at = c.args.at in
-    let b = sym c.look.ensures ∙ c.if-look-ne32.false in
+    let b = eqb-true _ _ (sym c.if-not-is_at.ensures) in
     let way = cond-true (eqb (byte x at) 32) _ _ (eq-eqb (byte x at) 32 b) in
     let (u, h, p) = c.in_ok-here.ensures.told in
     let (d, g, q) = c.in_ok-only.ensures.told in

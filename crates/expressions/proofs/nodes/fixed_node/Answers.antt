@@ -8,7 +8,7 @@ returns c =
     let k = c.in-Some.ensures in
     let f = c.ranges.number in
     record {
-      next = some_is _ _ _ k.next;
-      kept = k.below;
-      tree = fixed_tree c.args.words.now c.put_fixed.new.words c.args.free c.requires.room.0 k.below c.args.number (simp to_z-of_z at k.here);
+      next = some_is _ _ _ k.appends.next;
+      kept = k.appends.below;
+      tree = fixed_tree c.args.words.now c.put.new.words c.args.free c.requires.room.0 k.appends.below c.args.number (simp to_z-of_z at k.here);
     }

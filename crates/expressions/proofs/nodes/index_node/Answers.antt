@@ -6,7 +6,7 @@ pub returns : goal.returns
 returns c =
     let k = c.in-Some.ensures in
     record {
-      next = some_is _ _ _ k.next;
-      kept = k.below;
-      tree = index_tree c.args.words.now c.put_index.new.words c.args.free c.requires.room.0 k.below c.args.level k.here;
+      next = some_is _ _ _ k.appends.next;
+      kept = k.appends.below;
+      tree = index_tree c.args.words.now c.put.new.words c.args.free c.requires.room.0 k.appends.below c.args.level k.here;
     }

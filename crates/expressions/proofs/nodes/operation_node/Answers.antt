@@ -6,7 +6,7 @@ pub returns : goal.returns
 returns c =
     let k = c.in-Some.ensures in
     record {
-      next = some_is _ _ _ k.next;
-      kept = k.below;
-      tree = λ e f p q. joined_tree c.args.words.now c.put_operation.new.words c.args.free c.requires.room.0 k.below c.args.left c.args.right e f p q c.args.operator k.here;
+      next = some_is _ _ _ k.appends.next;
+      kept = k.appends.below;
+      tree = λ e f p q. joined_tree c.args.words.now c.put.new.words c.args.free c.requires.room.0 k.appends.below c.args.left c.args.right e f p q c.args.operator k.here;
     }

@@ -1,7 +1,7 @@
-use Rattle.std.proofs.Common.{◌-◌, not, ◌&&◌, eqb, Ok, sym, ap, ◌∙◌, subst, arith}
-use Rattle.std.proofs.lemmas.Bool.{cond-true, cond-false, eq-eqb, ne_eqb}
+use Rattle.std.proofs.Common.{◌-◌, eqb, Ok, sym, ap, ◌∙◌, subst, arith}
+use Rattle.std.proofs.lemmas.Bool.{cond-true, cond-false, eq-eqb, ne_eqb, eqb-true, eqb-false}
 use Rattle.compose.proofs.Settled.{agree_self}
-use Rattle.grammar.specs.Grammar.{is_letter, joined, entry1, entry2, index}
+use Rattle.grammar.specs.Grammar.{joined, entry1, entry2, index}
 use Rattle.grammar.specs.Reading.{ok, named, num, pair}
 use Rattle.scope.specs.Names.{names_in, part}
 use Rattle.tokens.specs.Told.{Told}
@@ -19,10 +19,10 @@ named-returns-in_default t c =
     let inner = num x ns (left - 1) in
     let name = c.args.name in
     let w = part x name in
-    record { told = named_no_index x ns left inner name.begin w name.end (λ e. c.if-look-ne91.true (c.look.ensures ∙ e)) c.in_default.ensures; kept = agree_self _ _ _ }
+    record { told = named_no_index x ns left inner name.begin w name.end (eqb-false _ _ (sym c.if-not-is_at.ensures)) c.in_default.ensures; kept = agree_self _ _ _ }
 
-pub named-returns-then-look-ne91 : goal.named-returns-then-look-ne91
-named-returns-then-look-ne91 t c =
+pub named-returns-then-not-is_at : goal.named-returns-then-not-is_at
+named-returns-then-not-is_at t c =
     let x = c.args.text.now in
     let ns = names_in x c.args.scope.now in
     let left = c.args.left in
@@ -34,7 +34,7 @@ named-returns-then-look-ne91 t c =
     record {
       told = (
         index w,
-        named_index x ns left inner name.begin w name.end c.in-Some.level (λ e. c.if-look-ne91.true (c.look.ensures ∙ e)) f,
+        named_index x ns left inner name.begin w name.end c.in-Some.level (eqb-false _ _ (sym c.if-not-is_at.ensures)) f,
         index_made x c.args.words.now c.index_node-next.new.words name c.args.free c.index_node-next.result c.in-Some.level ns w c.requires.name.0 c.requires.name.1 c.requires.room.0 c.requires.room.1 f k.next k.tree,
       );
       kept = k.kept;
@@ -48,7 +48,7 @@ named-returns-in_default-find_table t c =
     let inner = num x ns (left - 1) in
     let name = c.args.name in
     let w = part x name in
-    record { told = named_no_table x ns left inner name.begin w name.end (sym c.look.ensures ∙ c.if-look-ne91.false) c.in_default-find_table.ensures; kept = agree_self _ _ _ }
+    record { told = named_no_table x ns left inner name.begin w name.end (eqb-true _ _ (sym c.if-not-is_at.ensures)) c.in_default-find_table.ensures; kept = agree_self _ _ _ }
 
 pub named-returns-in_err-cell : goal.named-returns-in_err-cell
 named-returns-in_err-cell t c =
@@ -60,7 +60,7 @@ named-returns-in_err-cell t c =
     let w = part x name in
     let g = c.in-Some-find_table.table in
     let f = c.in-Some-find_table.ensures in
-    let way = named_table x ns left inner name.begin w name.end g (sym c.look.ensures ∙ c.if-look-ne91.false) f in
+    let way = named_table x ns left inner name.begin w name.end g (eqb-true _ _ (sym c.if-not-is_at.ensures)) f in
     record { told = told_exit _ _ _ _ c.from_residual.result c.from_residual.ensures.1 (way ∙ then_bad _ c.in_err-cell.ensures.told); kept = c.places.ensures.kept }
 
 pub named-returns : goal.named-returns
@@ -73,7 +73,7 @@ named-returns t c =
     let w = part x name in
     let g = c.in-Some-find_table.table in
     let f = c.in-Some-find_table.ensures in
-    let way = named_table x ns left inner name.begin w name.end g (sym c.look.ensures ∙ c.if-look-ne91.false) f in
+    let way = named_table x ns left inner name.begin w name.end g (eqb-true _ _ (sym c.if-not-is_at.ensures)) f in
     let (l, h, p) = c.in_ok-cell.ensures.told in
     let k = c.entry_node-next.ensures in
     record {
@@ -85,23 +85,23 @@ named-returns t c =
       kept = agree_more c.args.free c.in_ok-cell.cell.next c.args.words.now c.places.new.words c.entry_node-next.new.words p.forward c.places.ensures.kept k.kept;
     }
 
-pub number-returns-then-c-eq40 : goal.number-returns-then-c-eq40
-number-returns-then-c-eq40 t c =
+pub number-returns-then-is_at : goal.number-returns-then-is_at
+number-returns-then-is_at t c =
     let x = c.args.text.now in
     let ns = names_in x c.args.scope.now in
     let left = c.args.left in
     let inner = num x ns (left - 1) in
-    record { told = told_on _ _ _ _ _ c.pair.result (num_pair x ns left c.args.at (sym c.look-c.ensures ∙ c.if-c-eq40.true)) (λ e r p. p) c.pair.ensures.told; kept = c.pair.ensures.kept }
+    record { told = told_on _ _ _ _ _ c.pair.result (num_pair x ns left c.args.at (eqb-true _ _ (sym c.if-is_at.ensures))) (λ e r p. p) c.pair.ensures.told; kept = c.pair.ensures.kept }
 
-pub number-returns-then-not-is_letter : goal.number-returns-then-not-is_letter
-number-returns-then-not-is_letter t c =
+pub number-returns-then-not-is_letter_at : goal.number-returns-then-not-is_letter_at
+number-returns-then-not-is_letter_at t c =
     let x = c.args.text.now in
     let ns = names_in x c.args.scope.now in
     let left = c.args.left in
     let inner = num x ns (left - 1) in
     record {
       told = told_on _ _ _ _ _ c.fixed.result
-          (num_fixed x ns left c.args.at (λ e. c.if-c-eq40.false (c.look-c.ensures ∙ e)) (ap is_letter (sym c.look-c.ensures) ∙ sym c.if-not-is_letter.ensures)) (λ e r p. p) (c.fixed.ensures.told ns);
+          (num_fixed x ns left c.args.at (eqb-false _ _ (sym c.if-is_at.ensures)) (sym c.if-not-is_letter_at.ensures)) (λ e r p. p) (c.fixed.ensures.told ns);
       kept = c.fixed.ensures.kept;
     }
 
@@ -111,7 +111,7 @@ number-returns-in_err-end t c =
     let ns = names_in x c.args.scope.now in
     let left = c.args.left in
     let inner = num x ns (left - 1) in
-    let way = num_named x ns left c.args.at (λ e. c.if-c-eq40.false (c.look-c.ensures ∙ e)) (ap is_letter (sym c.look-c.ensures) ∙ sym c.if-not-is_letter.ensures) in
+    let way = num_named x ns left c.args.at (eqb-false _ _ (sym c.if-is_at.ensures)) (sym c.if-not-is_letter_at.ensures) in
     record { told = told_exit _ _ _ _ c.from_residual.result c.from_residual.ensures.1 (way ∙ then_bad _ c.in_err-end.ensures.told); kept = agree_self _ _ _ }
 
 pub number-returns : goal.number-returns
@@ -120,7 +120,7 @@ number-returns t c =
     let ns = names_in x c.args.scope.now in
     let left = c.args.left in
     let inner = num x ns (left - 1) in
-    let way = num_named x ns left c.args.at (λ e. c.if-c-eq40.false (c.look-c.ensures ∙ e)) (ap is_letter (sym c.look-c.ensures) ∙ sym c.if-not-is_letter.ensures) in
+    let way = num_named x ns left c.args.at (eqb-false _ _ (sym c.if-is_at.ensures)) (sym c.if-not-is_letter_at.ensures) in
     let (w, h, p) = c.in_ok-end.ensures.told in
     record {
       told = told_on _ _ _ _ _ c.named.result (way ∙ then_ok _ h ∙ ap (λ v. named x ns left inner c.args.at v c.in_ok-end.end) p.2) (λ e r q. q) c.named.ensures.told;
@@ -254,8 +254,8 @@ pair-returns t c =
           (agree_more c.args.free c.in_ok-first.first.next c.args.words.now c.number.new.words c.number-2.new.words p-first.forward c.number.ensures.kept c.number-2.ensures.kept) k.kept;
     }
 
-pub places-returns-then-look-ne91 : goal.places-returns-then-look-ne91
-places-returns-then-look-ne91 t c =
+pub places-returns-then-not-is_at : goal.places-returns-then-not-is_at
+places-returns-then-not-is_at t c =
     let x = c.args.text.now in
     let ns = names_in x c.args.scope.now in
     let left = c.args.left in
@@ -263,7 +263,7 @@ places-returns-then-look-ne91 t c =
     let g = c.args.grid in
     let start = c.args.start in
     let at = c.args.at in
-    record { told = place_none x (enough g) start left inner at (λ e. c.if-look-ne91.true (c.look.ensures ∙ e)); kept = agree_self _ _ _ }
+    record { told = place_none x (enough g) start left inner at (eqb-false _ _ (sym c.if-not-is_at.ensures)); kept = agree_self _ _ _ }
 
 pub places-returns-then-left-eq0 : goal.places-returns-then-left-eq0
 places-returns-then-left-eq0 t c =
@@ -274,7 +274,7 @@ places-returns-then-left-eq0 t c =
     let g = c.args.grid in
     let start = c.args.start in
     let at = c.args.at in
-    record { told = place_deep x (enough g) start left inner at (sym c.look.ensures ∙ c.if-look-ne91.false) c.if-left-eq0.true; kept = agree_self _ _ _ }
+    record { told = place_deep x (enough g) start left inner at (eqb-true _ _ (sym c.if-not-is_at.ensures)) c.if-left-eq0.true; kept = agree_self _ _ _ }
 
 pub places-returns-in_err-inside : goal.places-returns-in_err-inside
 places-returns-in_err-inside t c =
@@ -285,7 +285,7 @@ places-returns-in_err-inside t c =
     let g = c.args.grid in
     let start = c.args.start in
     let at = c.args.at in
-    let way = place_open x (enough g) start left inner at (sym c.look.ensures ∙ c.if-look-ne91.false) c.if-left-eq0.false in
+    let way = place_open x (enough g) start left inner at (eqb-true _ _ (sym c.if-not-is_at.ensures)) c.if-left-eq0.false in
     record { told = told_exit _ _ _ _ c.from_residual.result c.from_residual.ensures.1 (way ∙ then_bad _ c.in_err-inside.ensures.told); kept = agree_self _ _ _ }
 
 pub places-returns-in_err-first : goal.places-returns-in_err-first
@@ -297,7 +297,7 @@ places-returns-in_err-first t c =
     let g = c.args.grid in
     let start = c.args.start in
     let at = c.args.at in
-    let way = place_open x (enough g) start left inner at (sym c.look.ensures ∙ c.if-look-ne91.false) c.if-left-eq0.false in
+    let way = place_open x (enough g) start left inner at (eqb-true _ _ (sym c.if-not-is_at.ensures)) c.if-left-eq0.false in
     let (a-inside, h-inside, p-inside) = c.in_ok-inside.ensures.told in
     record { told = told_exit _ _ _ _ c.from_residual-in_err-first.result c.from_residual-in_err-first.ensures.1 (way ∙ then_ok _ h-inside ∙ then_bad _ c.in_err-first.ensures.told); kept = c.number.ensures.kept }
 
@@ -310,15 +310,15 @@ places-returns-in_err-second t c =
     let g = c.args.grid in
     let start = c.args.start in
     let at = c.args.at in
-    let way = place_open x (enough g) start left inner at (sym c.look.ensures ∙ c.if-look-ne91.false) c.if-left-eq0.false in
+    let way = place_open x (enough g) start left inner at (eqb-true _ _ (sym c.if-not-is_at.ensures)) c.if-left-eq0.false in
     let (a-inside, h-inside, p-inside) = c.in_ok-inside.ensures.told in
     let (f, h-first, p-first) = c.in_ok-first.ensures.told in
     let m = c.in_ok-first.first.end in
-    let on = way ∙ then_ok _ h-inside ∙ then_ok _ h-first ∙ after_comma x (enough g) start inner f m (sym c.look-c.ensures ∙ c.if-c-eq44.true) in
+    let on = way ∙ then_ok _ h-inside ∙ then_ok _ h-first ∙ after_comma x (enough g) start inner f m (eqb-true _ _ (sym c.if-is_at.ensures)) in
     record { told = told_exit _ _ _ _ c.from_residual-in_err-second.result c.from_residual-in_err-second.ensures.1 (on ∙ then_bad _ c.in_err-second.ensures.told); kept = agree_more c.args.free c.in_ok-first.first.next c.args.words.now c.number.new.words c.second_place.new.words p-first.forward c.number.ensures.kept c.second_place.ensures.kept }
 
-pub places-returns-then-c-eq44 : goal.places-returns-then-c-eq44
-places-returns-then-c-eq44 t c =
+pub places-returns-then-is_at : goal.places-returns-then-is_at
+places-returns-then-is_at t c =
     let x = c.args.text.now in
     let ns = names_in x c.args.scope.now in
     let left = c.args.left in
@@ -326,11 +326,11 @@ places-returns-then-c-eq44 t c =
     let g = c.args.grid in
     let start = c.args.start in
     let at = c.args.at in
-    let way = place_open x (enough g) start left inner at (sym c.look.ensures ∙ c.if-look-ne91.false) c.if-left-eq0.false in
+    let way = place_open x (enough g) start left inner at (eqb-true _ _ (sym c.if-not-is_at.ensures)) c.if-left-eq0.false in
     let (a-inside, h-inside, p-inside) = c.in_ok-inside.ensures.told in
     let (f, h-first, p-first) = c.in_ok-first.ensures.told in
     let m = c.in_ok-first.first.end in
-    let on = way ∙ then_ok _ h-inside ∙ then_ok _ h-first ∙ after_comma x (enough g) start inner f m (sym c.look-c.ensures ∙ c.if-c-eq44.true) in
+    let on = way ∙ then_ok _ h-inside ∙ then_ok _ h-first ∙ after_comma x (enough g) start inner f m (eqb-true _ _ (sym c.if-is_at.ensures)) in
     let (s, h-second, p-second) = c.in_ok-second.ensures.told in
     record {
       told = (
@@ -351,12 +351,12 @@ places-returns-then-needs_second t c =
     let g = c.args.grid in
     let start = c.args.start in
     let at = c.args.at in
-    let way = place_open x (enough g) start left inner at (sym c.look.ensures ∙ c.if-look-ne91.false) c.if-left-eq0.false in
+    let way = place_open x (enough g) start left inner at (eqb-true _ _ (sym c.if-not-is_at.ensures)) c.if-left-eq0.false in
     let (a-inside, h-inside, p-inside) = c.in_ok-inside.ensures.told in
     let (f, h-first, p-first) = c.in_ok-first.ensures.told in
     let m = c.in_ok-first.first.end in
     record {
-      told = way ∙ then_ok _ h-inside ∙ then_ok _ h-first ∙ after_wrong x (enough g) start inner f m (λ e. c.if-c-eq44.false (c.look-c.ensures ∙ e)) (ap (λ b. eqb b 93 && not (enough g)) (sym c.look-c.ensures) ∙ sym c.if-needs_second.ensures);
+      told = way ∙ then_ok _ h-inside ∙ then_ok _ h-first ∙ after_wrong x (enough g) start inner f m (eqb-false _ _ (sym c.if-is_at.ensures)) (sym c.if-needs_second.ensures);
       kept = c.number.ensures.kept;
     }
 
@@ -369,11 +369,11 @@ places-returns-in_err-end t c =
     let g = c.args.grid in
     let start = c.args.start in
     let at = c.args.at in
-    let way = place_open x (enough g) start left inner at (sym c.look.ensures ∙ c.if-look-ne91.false) c.if-left-eq0.false in
+    let way = place_open x (enough g) start left inner at (eqb-true _ _ (sym c.if-not-is_at.ensures)) c.if-left-eq0.false in
     let (a-inside, h-inside, p-inside) = c.in_ok-inside.ensures.told in
     let (f, h-first, p-first) = c.in_ok-first.ensures.told in
     let m = c.in_ok-first.first.end in
-    let on = way ∙ then_ok _ h-inside ∙ then_ok _ h-first ∙ after_one x (enough g) start inner f m (λ e. c.if-c-eq44.false (c.look-c.ensures ∙ e)) (ap (λ b. eqb b 93 && not (enough g)) (sym c.look-c.ensures) ∙ sym c.if-needs_second.ensures) in
+    let on = way ∙ then_ok _ h-inside ∙ then_ok _ h-first ∙ after_one x (enough g) start inner f m (eqb-false _ _ (sym c.if-is_at.ensures)) (sym c.if-needs_second.ensures) in
     record { told = told_exit _ _ _ _ c.from_residual-in_err-end.result c.from_residual-in_err-end.ensures.1 (on ∙ then_bad _ c.in_err-end.ensures.told); kept = c.number.ensures.kept }
 
 pub places-returns : goal.places-returns
@@ -385,11 +385,11 @@ places-returns t c =
     let g = c.args.grid in
     let start = c.args.start in
     let at = c.args.at in
-    let way = place_open x (enough g) start left inner at (sym c.look.ensures ∙ c.if-look-ne91.false) c.if-left-eq0.false in
+    let way = place_open x (enough g) start left inner at (eqb-true _ _ (sym c.if-not-is_at.ensures)) c.if-left-eq0.false in
     let (a-inside, h-inside, p-inside) = c.in_ok-inside.ensures.told in
     let (f, h-first, p-first) = c.in_ok-first.ensures.told in
     let m = c.in_ok-first.first.end in
-    let on = way ∙ then_ok _ h-inside ∙ then_ok _ h-first ∙ after_one x (enough g) start inner f m (λ e. c.if-c-eq44.false (c.look-c.ensures ∙ e)) (ap (λ b. eqb b 93 && not (enough g)) (sym c.look-c.ensures) ∙ sym c.if-needs_second.ensures) in
+    let on = way ∙ then_ok _ h-inside ∙ then_ok _ h-first ∙ after_one x (enough g) start inner f m (eqb-false _ _ (sym c.if-is_at.ensures)) (sym c.if-needs_second.ensures) in
     let (s, h-end, p-end) = c.in_ok-end.ensures.told in
     record {
       told = subst (λ r. Told (λ p. p.end) (PlacesMade x ns g at c.args.free c.args.words.now c.number.new.words) (place_at x g start left inner at) (Ok r)) (sym c.only_place.ensures)

@@ -1,9 +1,11 @@
-use Rattle.std.proofs.Common.{◌∙◌, arith, w64, SFits, rules}
+use Rattle.std.proofs.Common.{◌<◌, ap, ◌∙◌, arith, w64, SFits, rules}
 use Rattle.std.proofs.lemmas.Int.{to_z-of_z}
 use Rattle.std.proofs.lemmas.Bool.{cond-true, cond-false, lt-ltb, le-ltb}
+use lib.IntN.{nat_abs}
 use Rattle.grammar.specs.Grammar.{fixed}
 use Rattle.grammar.specs.Reading.{fixed_at, small, size}
 use Rattle.compose.proofs.Settled.{agree_self}
+use Rattle.tokens.proofs.Counted.{told_size}
 use Rattle.tokens.proofs.Steps.{then_ok, then_bad, told_exit}
 use Rattle.expressions.proofs.NumberTrees.{fixed_made}
 use Rattle.expressions.proofs.numbers.fixed.Goals as goal
@@ -15,10 +17,13 @@ returns-in_err-number c = record {
   kept = agree_self _ _ _;
 }
 
-pub returns-then-number-ge-NUMBER_LIMIT : goal.returns-then-number-ge-NUMBER_LIMIT
+pub returns-then-unsigned_abs-ge-NUMBER_LIMIT : goal.returns-then-unsigned_abs-ge-NUMBER_LIMIT
 unfolding fixed_at
-returns-then-number-ge-NUMBER_LIMIT c =
+returns-then-unsigned_abs-ge-NUMBER_LIMIT c =
     let (n, h, p) = c.in_ok-number.ensures.told in
+    let s = ap nat_abs p.2 ∙ told_size n in
+    let f : SFits w64 c.in_ok-number.number.value = search rules in
+    let u = simp to_z-of_z at c.unsigned_abs.ensures.value in
     record { told = λ ns. then_ok _ h ∙ cond-false (small n) _ _ (le-ltb (size n) 1000000 (omega arith)); kept = agree_self _ _ _ }
 
 pub returns : goal.returns
@@ -26,13 +31,16 @@ unfolding fixed_at
 returns c =
     let (n, h, p) = c.in_ok-number.ensures.told in
     let k = c.fixed_node-next.ensures in
-    let f : SFits w64 c.value_of.result = search rules in
+    let s = ap nat_abs p.2 ∙ told_size n in
+    let f : SFits w64 c.in_ok-number.number.value = search rules in
+    let u = simp to_z-of_z at c.unsigned_abs.ensures.value in
+    let l : size n < 1000000 = omega arith in
     record {
       told = λ ns. (
         fixed n,
-        then_ok _ h ∙ cond-true (small n) _ _ (lt-ltb (size n) 1000000 (omega arith)),
-        fixed_made c.args.text.now c.args.words.now c.fixed_node-next.new.words c.args.at c.args.free c.fixed_node-next.result n c.in_ok-number.number c.value_of.result ns
-            p c.requires.room.0 c.requires.room.1 c.if-number-ge-NUMBER_LIMIT.false c.value_of.ensures k.next (simp to_z-of_z at k.tree),
+        then_ok _ h ∙ cond-true (small n) _ _ (lt-ltb (size n) 1000000 l),
+        fixed_made c.args.text.now c.args.words.now c.fixed_node-next.new.words c.args.at c.args.free c.fixed_node-next.result n c.in_ok-number.number ns
+            p c.requires.room.0 c.requires.room.1 l k.next (simp to_z-of_z at k.tree),
       );
       kept = k.kept;
     }

@@ -1,7 +1,7 @@
 use Rattle.std.proofs.Common.{◌≡◌, suc, ◌+◌, ◌-◌, ◌≤◌, [], ◌∷◌, length, set, sym, refl, ap, ◌∙◌, arith}
-use Rattle.std.proofs.lemmas.Bool.{cond-true, cond-false}
+use Rattle.std.proofs.lemmas.Bool.{cond-true, cond-false, eqb-true, eqb-false}
 use Rattle.compose.proofs.Settled.{agree_self}
-use Rattle.grammar.specs.Grammar.{is_letter, member, reserved, sum_over}
+use Rattle.grammar.specs.Grammar.{member, reserved, sum_over}
 use Rattle.grammar.specs.Reading.{num, named, lin, with_index}
 use Rattle.grammar.specs.Says.{term_of}
 use Rattle.scope.specs.Names.{names_in}
@@ -118,8 +118,8 @@ sum-returns-in_err-only t c =
     let e2 = ap (λ ms. filter_at x ms left most over.index.end) (sym g) in
     record { told = told_exit _ _ _ _ c.from_residual-in_err-only.result c.from_residual-in_err-only.ensures.1 (way ∙ then_ok _ d1 ∙ then_bad _ (e2 ∙ c.in_err-only.ensures.told)); kept = c.filter.ensures.kept; held = agree_self _ _ _ }
 
-pub sum-returns-then-look-ne40 : goal.sum-returns-then-look-ne40
-sum-returns-then-look-ne40 t c =
+pub sum-returns-then-not-is_at : goal.sum-returns-then-not-is_at
+sum-returns-then-not-is_at t c =
     let x = c.args.text.now in
     let ns = names_in x c.args.scope.now in
     let left = c.args.left in
@@ -138,7 +138,7 @@ sum-returns-then-look-ne40 t c =
     let (d, h2, p2) = c.in_ok-only.ensures.told in
     let only = c.in_ok-only.only in
     let on = way ∙ then_ok _ d1 ∙ then_ok _ (e2 ∙ h2) in
-    record { told = on ∙ body_none x ns left inner b d only.end (λ e. c.if-look-ne40.true (c.look.ensures ∙ e)); kept = c.filter.ensures.kept; held = agree_self _ _ _ }
+    record { told = on ∙ body_none x ns left inner b d only.end (eqb-false _ _ (sym c.if-not-is_at.ensures)); kept = c.filter.ensures.kept; held = agree_self _ _ _ }
 
 pub sum-returns-then-left-eq0 : goal.sum-returns-then-left-eq0
 sum-returns-then-left-eq0 t c =
@@ -160,7 +160,7 @@ sum-returns-then-left-eq0 t c =
     let (d, h2, p2) = c.in_ok-only.ensures.told in
     let only = c.in_ok-only.only in
     let on = way ∙ then_ok _ d1 ∙ then_ok _ (e2 ∙ h2) in
-    record { told = on ∙ body_deep x ns left inner b d only.end (sym c.look.ensures ∙ c.if-look-ne40.false) c.if-left-eq0.true; kept = c.filter.ensures.kept; held = agree_self _ _ _ }
+    record { told = on ∙ body_deep x ns left inner b d only.end (eqb-true _ _ (sym c.if-not-is_at.ensures)) c.if-left-eq0.true; kept = c.filter.ensures.kept; held = agree_self _ _ _ }
 
 pub sum-returns-in_err-first : goal.sum-returns-in_err-first
 sum-returns-in_err-first t c =
@@ -182,7 +182,7 @@ sum-returns-in_err-first t c =
     let (d, h2, p2) = c.in_ok-only.ensures.told in
     let only = c.in_ok-only.only in
     let on = way ∙ then_ok _ d1 ∙ then_ok _ (e2 ∙ h2) in
-    let into = on ∙ body_open x ns left inner b d only.end (sym c.look.ensures ∙ c.if-look-ne40.false) c.if-left-eq0.false in
+    let into = on ∙ body_open x ns left inner b d only.end (eqb-true _ _ (sym c.if-not-is_at.ensures)) c.if-left-eq0.false in
     record { told = told_exit _ _ _ _ c.from_residual-in_err-first.result c.from_residual-in_err-first.ensures.1 (into ∙ then_bad _ c.in_err-first.ensures.told); kept = c.filter.ensures.kept; held = agree_self _ _ _ }
 
 pub sum-returns-in_err-body : goal.sum-returns-in_err-body
@@ -205,7 +205,7 @@ sum-returns-in_err-body t c =
     let (d, h2, p2) = c.in_ok-only.ensures.told in
     let only = c.in_ok-only.only in
     let on = way ∙ then_ok _ d1 ∙ then_ok _ (e2 ∙ h2) in
-    let into = on ∙ body_open x ns left inner b d only.end (sym c.look.ensures ∙ c.if-look-ne40.false) c.if-left-eq0.false in
+    let into = on ∙ body_open x ns left inner b d only.end (eqb-true _ _ (sym c.if-not-is_at.ensures)) c.if-left-eq0.false in
     let (u, h3, p3) = c.in_ok-first.ensures.told in
     let e4 = ap (λ f. f (with_index b.index ns) (left - 1) c.in_ok-first.first) (inner_is x most nest (not_deep nest (sym deep ∙ p1.0))) ∙ ap (λ ms. lin x most (nest - 1) ms (left - 1) c.in_ok-first.first) (sym g) in
     record { told = told_exit _ _ _ _ c.from_residual-in_err-body.result c.from_residual-in_err-body.ensures.1 (into ∙ then_ok _ h3 ∙ then_bad _ (e4 ∙ c.in_err-body.ensures.told)); kept = agree_more c.args.free only.next c.args.words.now c.filter.new.words c.linear.new.words p2.forward c.filter.ensures.kept c.linear.ensures.kept; held = c.linear.ensures.held }
@@ -230,7 +230,7 @@ sum-returns-in_err-end t c =
     let (d, h2, p2) = c.in_ok-only.ensures.told in
     let only = c.in_ok-only.only in
     let on = way ∙ then_ok _ d1 ∙ then_ok _ (e2 ∙ h2) in
-    let into = on ∙ body_open x ns left inner b d only.end (sym c.look.ensures ∙ c.if-look-ne40.false) c.if-left-eq0.false in
+    let into = on ∙ body_open x ns left inner b d only.end (eqb-true _ _ (sym c.if-not-is_at.ensures)) c.if-left-eq0.false in
     let (u, h3, p3) = c.in_ok-first.ensures.told in
     let e4 = ap (λ f. f (with_index b.index ns) (left - 1) c.in_ok-first.first) (inner_is x most nest (not_deep nest (sym deep ∙ p1.0))) ∙ ap (λ ms. lin x most (nest - 1) ms (left - 1) c.in_ok-first.first) (sym g) in
     let (l, h4, p4) = c.in_ok-body.ensures.told in
@@ -257,7 +257,7 @@ sum-returns t c =
     let (d, h2, p2) = c.in_ok-only.ensures.told in
     let only = c.in_ok-only.only in
     let on = way ∙ then_ok _ d1 ∙ then_ok _ (e2 ∙ h2) in
-    let into = on ∙ body_open x ns left inner b d only.end (sym c.look.ensures ∙ c.if-look-ne40.false) c.if-left-eq0.false in
+    let into = on ∙ body_open x ns left inner b d only.end (eqb-true _ _ (sym c.if-not-is_at.ensures)) c.if-left-eq0.false in
     let (u, h3, p3) = c.in_ok-first.ensures.told in
     let e4 = ap (λ f. f (with_index b.index ns) (left - 1) c.in_ok-first.first) (inner_is x most nest (not_deep nest (sym deep ∙ p1.0))) ∙ ap (λ ms. lin x most (nest - 1) ms (left - 1) c.in_ok-first.first) (sym g) in
     let (l, h4, p4) = c.in_ok-body.ensures.told in
@@ -283,7 +283,7 @@ term-returns-in_err-first t c =
     let most = length x + 1 in
     let nest = c.args.nest in
     let at = c.args.at in
-    let way = term_number x ns left most nest at (ap is_letter (sym c.look.ensures) ∙ sym c.if-not-is_letter.ensures) in
+    let way = term_number x ns left most nest at (sym c.if-not-is_letter_at.ensures) in
     record { told = told_exit _ _ _ _ c.from_residual.result c.from_residual.ensures.1 (way ∙ then_bad _ c.in_err-first.ensures.told); kept = c.number.ensures.kept; held = agree_self _ _ _ }
 
 pub term-after_number-requires : goal.term-after_number-requires
@@ -302,15 +302,15 @@ term-after_number-requires t c =
     let long = c.number.ensures.kept.long in
     record { room = (s, omega arith, omega arith); number = (p.inside, p.placed.1) }
 
-pub term-returns-then-not-is_letter : goal.term-returns-then-not-is_letter
-term-returns-then-not-is_letter t c =
+pub term-returns-then-not-is_letter_at : goal.term-returns-then-not-is_letter_at
+term-returns-then-not-is_letter_at t c =
     let x = c.args.text.now in
     let ns = names_in x c.args.scope.now in
     let left = c.args.left in
     let most = length x + 1 in
     let nest = c.args.nest in
     let at = c.args.at in
-    let way = term_number x ns left most nest at (ap is_letter (sym c.look.ensures) ∙ sym c.if-not-is_letter.ensures) in
+    let way = term_number x ns left most nest at (sym c.if-not-is_letter_at.ensures) in
     let (n, h, p) = c.in_ok-first.ensures.told in
     let s = c.number.ensures.kept in
     record {
@@ -327,7 +327,7 @@ term-returns-in_err-end t c =
     let most = length x + 1 in
     let nest = c.args.nest in
     let at = c.args.at in
-    let letter = ap is_letter (sym c.look.ensures) ∙ sym c.if-not-is_letter.ensures in
+    let letter = sym c.if-not-is_letter_at.ensures in
     record { told = told_exit _ _ _ _ c.from_residual-in_err-end.result c.from_residual-in_err-end.ensures.1 (term_broken x ns left most nest at _ letter c.in_err-end.ensures.told); kept = agree_self _ _ _; held = agree_self _ _ _ }
 
 pub term-returns-in_err-first-in-Name : goal.term-returns-in_err-first-in-Name
@@ -338,7 +338,7 @@ term-returns-in_err-first-in-Name t c =
     let most = length x + 1 in
     let nest = c.args.nest in
     let at = c.args.at in
-    let letter = ap is_letter (sym c.look.ensures) ∙ sym c.if-not-is_letter.ensures in
+    let letter = sym c.if-not-is_letter_at.ensures in
     let (w, h, p) = c.in_ok-end.ensures.told in
     let end = c.in_ok-end.end in
     let way = term_name x ns left most nest at w end letter h (λ k e. c.in-Name.ensures k (sym p.2 ∙ e)) in
@@ -369,7 +369,7 @@ term-returns-in_ok-first-in-Name t c =
     let most = length x + 1 in
     let nest = c.args.nest in
     let at = c.args.at in
-    let letter = ap is_letter (sym c.look.ensures) ∙ sym c.if-not-is_letter.ensures in
+    let letter = sym c.if-not-is_letter_at.ensures in
     let (w, h, p) = c.in_ok-end.ensures.told in
     let end = c.in_ok-end.end in
     let way = term_name x ns left most nest at w end letter h (λ k e. c.in-Name.ensures k (sym p.2 ∙ e)) in
@@ -390,7 +390,7 @@ term-returns-in_err-node-in-Sum t c =
     let most = length x + 1 in
     let nest = c.args.nest in
     let at = c.args.at in
-    let letter = ap is_letter (sym c.look.ensures) ∙ sym c.if-not-is_letter.ensures in
+    let letter = sym c.if-not-is_letter_at.ensures in
     let (w, h, p) = c.in_ok-end.ensures.told in
     let end = c.in_ok-end.end in
     let way = term_sum x ns left most nest at w end letter h (p.2 ∙ c.in-Sum.ensures) in
@@ -404,7 +404,7 @@ term-returns-in_ok-node-in-Sum t c =
     let most = length x + 1 in
     let nest = c.args.nest in
     let at = c.args.at in
-    let letter = ap is_letter (sym c.look.ensures) ∙ sym c.if-not-is_letter.ensures in
+    let letter = sym c.if-not-is_letter_at.ensures in
     let (w, h, p) = c.in_ok-end.ensures.told in
     let end = c.in_ok-end.end in
     let way = term_sum x ns left most nest at w end letter h (p.2 ∙ c.in-Sum.ensures) in
@@ -423,7 +423,7 @@ term-returns-in-Neither t c =
     let most = length x + 1 in
     let nest = c.args.nest in
     let at = c.args.at in
-    let letter = ap is_letter (sym c.look.ensures) ∙ sym c.if-not-is_letter.ensures in
+    let letter = sym c.if-not-is_letter_at.ensures in
     let (w, h, p) = c.in_ok-end.ensures.told in
     let end = c.in_ok-end.end in
     let n = c.in-Neither.ensures in
