@@ -1,5 +1,5 @@
 -- Numbers that were read and written. Assumes nothing.
-use Rattle.std.proofs.Common.{◌≡◌, ℕ, ◌+◌, ◌*◌, ◌<◌, ◌≤◌, Bool, true, false, cond, eqb, List, length, ℤ, Some, sym, refl, ◌∙◌, subst, arith}
+use Rattle.std.proofs.Common.{◌≡◌, ℕ, ◌+◌, ◌*◌, ◌<◌, ◌≤◌, Bool, true, false, cond, eqb, List, length, Some, sym, refl, ◌∙◌, subst, arith}
 use Rattle.model.specs.Model as model
 use Rattle.model.specs.Kept.{NumIn}
 use Rattle.compose.specs.Agree.{Agree, Settled}
@@ -7,11 +7,11 @@ use Rattle.compose.proofs.Settled.{agree_on, agree_part}
 use Rattle.model.specs.declared.Operator.{Operator}
 use Rattle.compose.specs.declared.Name.{Name}
 use Rattle.grammar.specs.Grammar.{Word, Numeral, Num, fixed, index, entry1, entry2, joined}
-use Rattle.grammar.specs.Reading.{Names, find, a_table, an_index, value}
+use Rattle.grammar.specs.Reading.{Names, find, a_table, an_index, size, value}
 use Rattle.grammar.specs.Says.{num_of, naught, number_of, row_place, column_place}
 use Rattle.scope.specs.declared.Grid.{Grid}
-use Rattle.tokens.specs.declared.Number.{Number}
-use Rattle.tokens.specs.Sizes.{Counts, value_of}
+use Rattle.tokens.specs.declared.numbers.Number.{Number}
+use Rattle.tokens.specs.Sizes.{Counts}
 use Rattle.tokens.proofs.Counted.{value_told}
 use Rattle.expressions.specs.declared.Node.{Node}
 use Rattle.expressions.specs.declared.Places.{Places}
@@ -43,10 +43,10 @@ made_from f m = record { onward = m.onward; inside = m.inside; short = m.short; 
 
 -- NUMBERS
 
-pub fixed_made : (x us ws : List ℕ) (at free next : ℕ) (n : Numeral) (p : Number) (v : ℤ) (ns : Names) → Counts x at n p → at ≤ 65536 → 1810 ≤ free → p.size < 1000000 → v ≡ value_of p → next ≡ free + 2
-    → Settled 1808 (free + 2) ws (λ vs. NumIn vs free (model.fixed v)) → NumMade x ns at free us ws (fixed n) (record { place = free; next = next; end = p.end })
+pub fixed_made : (x us ws : List ℕ) (at free next : ℕ) (n : Numeral) (p : Number) (ns : Names) → Counts x at n p → at ≤ 65536 → 1810 ≤ free → size n < 1000000 → next ≡ free + 2
+    → Settled 1808 (free + 2) ws (λ vs. NumIn vs free (model.fixed p.value)) → NumMade x ns at free us ws (fixed n) (record { place = free; next = next; end = p.end })
 unfolding num_of
-fixed_made x us ws at free next n p v ns (a, b, s, m, d) l r z e f t = record {
+fixed_made x us ws at free next n p ns (a, b, v, d) l r z f t = record {
   onward = a;
   inside = b;
   short = d l;
@@ -54,7 +54,7 @@ fixed_made x us ws at free next n p v ns (a, b, s, m, d) l r z e f t = record {
   forward = omega arith;
   placed = (omega arith, omega arith);
   tree = λ _. subst (λ k. Settled 1808 k ws (λ vs. NumIn vs free (model.fixed (value n)))) (sym f)
-      (subst (λ y. Settled 1808 (free + 2) ws (λ vs. NumIn vs free (model.fixed y))) (e ∙ value_told n p s m (omega arith)) t);
+      (subst (λ y. Settled 1808 (free + 2) ws (λ vs. NumIn vs free (model.fixed y))) (v ∙ value_told n (omega arith)) t);
 }
 
 pub index_made : (x us ws : List ℕ) (n : Name) (free next level : ℕ) (ns : Names) (w : Word) → n.begin < n.end → n.end ≤ length x → n.end ≤ 65536 → 1810 ≤ free → find w ns ≡ Some (an_index level) → next ≡ free + 2

@@ -23,6 +23,7 @@ use Rattle.expressions.specs.Made.{Zero}
 use Rattle.expressions.specs.Conditions.{BoundNames, bound_at, filter_at, FilterMade}
 use Rattle.expressions.specs.Sums.{deep_of, Terms, run_end, run_more, spaced_of, sum_of, sides_of, terms_at, second_byte, sides_at, Item, Stacked, chained, TermsMade, LinMade, RowMade}
 use Rattle.expressions.proofs.Ways.{then_then, then_same, then_cond, cond_same}
+use Rattle.tokens.proofs.Steps.{inside, told_on}
 use Rattle.expressions.proofs.NumberTrees.{settled_on, zero_on}
 use Rattle.expressions.proofs.Follows.{row_plain, row_all, body_of}
 use Rattle.expressions.proofs.SumWays.{header_as, differs}
@@ -45,6 +46,8 @@ module _ (x : List ℕ) (at : ℕ) where
   pub comparison_none : (byte x at ≡ 60 → ⊥) → (byte x at ≡ 62 → ⊥) → (byte x at ≡ 61 → ⊥) → comparison x at ≡ bad (Syntax at)
   unfolding comparison
   comparison_none a b c = cond-false (eqb (byte x at) 60) _ _ (ne_eqb (byte x at) 60 a) ∙ cond-false (eqb (byte x at) 62) _ _ (ne_eqb (byte x at) 62 b) ∙ cond-false (eqb (byte x at) 61) _ _ (ne_eqb (byte x at) 61 c)
+
+pub ruleset comparisons = (comparison_less, comparison_more, comparison_equal, comparison_none, inside, told_on)
 
 -- CONSTRAINTS
 

@@ -12,7 +12,7 @@ use Rattle.grammar.specs.declared.Refusal.TheVariants.{Syntax, Range}
 use Rattle.grammar.specs.Grammar.{is_letter, Word, member, reserved, Cond, Term, Lin, sum_over}
 use Rattle.grammar.specs.Reading.{Got, ok, bad, then, byte, literal, word, name, Names, find, a_set, set_there, free, num, named, lin, header, sum_at, term_then, condition, with_index}
 use Rattle.grammar.specs.Says.{term_of, lin_behind, filter_of, number_of}
-use Rattle.tokens.specs.declared.Reserved.TheVariants.{Sum, All}
+use Rattle.tokens.specs.declared.words.Reserved.TheVariants.{Sum, All}
 use Rattle.tokens.specs.Spelling.{Spells}
 use Rattle.tokens.proofs.Steps.{then_ok, then_bad}
 use Rattle.tokens.proofs.Named.{none_member}

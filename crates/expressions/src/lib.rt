@@ -1,8 +1,3 @@
-// NOTE TO THE HELPER OF THIS CLONE (do not commit this line; `git checkout` this file): the crate
-// `expressions` is taken over in another clone from here on. Leave it as it is. Finish `reader`, commit,
-// tidy and plant tokens, scope and reader, make scope's `Prim.grind` go (the words "search" and "grind"
-// stay out of src/ and specs/: prove `inverse_ok` by a lemma of specs/ with other tactics, or do without
-// Copy and the inverse), write the report, and stop.
 // Numbers, conditions, sums and constraints of a text, read into the words of a model.
 //
 // Each function reads one production at a place of the text and returns where it ends, or the fault
@@ -16,19 +11,20 @@
 // runs out, and no function on the way has to ask for it.
 #![tactic(auto)]
 
-
-mod context;
+pub mod conditions;
+pub mod finding;
 pub mod nodes;
-
-
-
-
+pub mod numbers;
+pub mod rows;
+pub mod sums;
+pub mod terms;
 
 use compose::Name;
+use model::{Comparison, Relation, Sign};
 
 // What was read and written: the place of its node, the first word behind its words, and where it
 // ends in the text.
-#[derive(Clone, Copy, Debug, PartialEq)]
+#[derive(Clone, Copy)]
 pub struct Node {
     pub place: usize,
     pub next: usize,
@@ -36,7 +32,7 @@ pub struct Node {
 }
 
 // What stood in square brackets: the nodes of the row and of the column.
-#[derive(Clone, Copy, Debug, PartialEq)]
+#[derive(Clone, Copy)]
 pub struct Places {
     pub row: usize,
     pub column: usize,
@@ -44,22 +40,22 @@ pub struct Places {
     pub end: usize,
 }
 
-// A relation, a comparison or a sign, and where it ends.
-#[derive(Clone, Copy, Debug, PartialEq)]
-pub struct At<T> {
-    pub value: T,
+// A relation and where it ends.
+#[derive(Clone, Copy)]
+pub struct RelationAt {
+    pub relation: Relation,
     pub end: usize,
 }
 
 // What a sum or an all goes through: the set's number, and where the index's name stands.
-#[derive(Clone, Copy, Debug, PartialEq)]
+#[derive(Clone, Copy)]
 pub struct Bound {
     pub set: usize,
     pub index: Name,
 }
 
 // The condition of a sum or an all, if there is one.
-#[derive(Clone, Copy, Debug, PartialEq)]
+#[derive(Clone, Copy)]
 pub struct Filter {
     pub condition: Option<usize>,
     pub next: usize,
@@ -68,17 +64,22 @@ pub struct Filter {
 
 // A term, and whether a space follows it, which then belongs to it: what the space begins is not
 // known before the byte behind it.
-// A flag, since the term is there with a space and without.
-#[derive(Clone, Copy, Debug, PartialEq)]
+#[derive(Clone, Copy)]
 pub struct TermAt {
     pub node: Node,
     pub spaced: bool,
 }
 
+// A sign between two terms, and where the next term begins.
+#[derive(Clone, Copy)]
+pub struct SignAt {
+    pub sign: Sign,
+    pub end: usize,
+}
+
 // Terms with signs between them: how far up they wait, the first free word, where they end, and
 // whether a space stood behind the last.
-// A flag, as in a term.
-#[derive(Clone, Copy, Debug, PartialEq)]
+#[derive(Clone, Copy)]
 pub struct Run {
     pub top: usize,
     pub next: usize,
@@ -87,15 +88,23 @@ pub struct Run {
 }
 
 // The sum that waiting terms were chained to: the place of its first node, and the first free word.
-#[derive(Clone, Copy, Debug, PartialEq)]
+#[derive(Clone, Copy)]
 pub struct Chain {
     pub place: usize,
     pub next: usize,
 }
 
-// What a word begins where a term stands: a sum over a set, or a name.
-#[derive(Clone, Copy, Debug, PartialEq)]
+// What a word begins where a term stands: a sum over a set, a name, or nothing.
+#[derive(Clone, Copy)]
 pub enum Lead {
     Sum,
     Name,
+    Neither,
+}
+
+// A comparison and where it ends.
+#[derive(Clone, Copy)]
+pub struct ComparisonAt {
+    pub comparison: Comparison,
+    pub end: usize,
 }

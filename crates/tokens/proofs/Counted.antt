@@ -1,5 +1,6 @@
 -- The ends of a number, as the code finds them, and its size. Assumes nothing.
 use Rattle.std.proofs.Common.{◌≡◌, ℕ, ◌+◌, ◌-◌, ◌*◌, ◌<◌, ◌≤◌, min, true, false, cond, eqb, leb, List, ◌∷◌, map, length, pos, neg_ℤ, refl, ap, ◌∙◌, ⊎_elim, arith}
+use lib.IntN.{nat_abs}
 use Rattle.std.proofs.lemmas.Int.Digits.{number_after_ge}
 use Rattle.std.proofs.lemmas.Bool.{cond-true, cond-false, cases_lt, eq-eqb, ne_eqb, and_parts, and_from, leb-true, le-leb}
 use Rattle.grammar.specs.declared.Refusal.TheVariants.{Syntax, Range}
@@ -38,6 +39,12 @@ pub value_told : (n : Numeral) → size n ≤ 1000000 → told_value n ≡ value
 value_told nought l = refl
 value_told (whole d ds) l = let z : min 1000001 (size (whole d ds)) ≡ size (whole d ds) = omega arith in ap pos z
 value_told (minus d ds) l = let z : min 1000001 (size (minus d ds)) ≡ size (minus d ds) = omega arith in ap (λ s. neg_ℤ (pos s)) z
+
+-- the size of a number that was told
+pub told_size : (n : Numeral) → nat_abs (told_value n) ≡ min 1000001 (size n)
+told_size nought = refl
+told_size (whole d ds) = refl
+told_size (minus d ds) = grind arith
 
 -- NUMERALS by how they begin
 
