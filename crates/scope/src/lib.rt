@@ -57,8 +57,7 @@ pub struct Scope {
 
 impl Model for Scope {
     ghost use Rattle.std.specs.Prelude.{◌≡◌, ◌-◌, ◌≤◌, List, ◌++◌, length, replicate, reverse, drop, take};
-    ghost use Rattle.std.proofs.Common.{arith};
-    ghost use Rattle.std.proofs.lemmas.Grind.{common_steps};
+    ghost use Rattle.scope.specs.Back.{entries_back};
     ghost use Rattle.scope.specs.declared.Entry.{Entry};
     ghost use Rattle.scope.specs.declared.TheConstants.{NO_ENTRY};
 
@@ -71,7 +70,7 @@ impl Model for Scope {
 
     ghost inverse = { λ es. record { entries = reverse es ++ replicate (56 - length es) NO_ENTRY; count = length es } };
 
-    ghost inverse_ok = { λ a h. Prim.grind (arith, common_steps) };
+    ghost inverse_ok = { λ a h. entries_back (λ es n. record { entries = es; count = n }) NO_ENTRY a.entries a.count h.0 h.1 h.2 };
 }
 
 // What stands in a text from one place to another; places past the end have nothing.
