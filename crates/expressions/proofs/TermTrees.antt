@@ -1,5 +1,5 @@
 -- Terms that were read and written, and the space behind them. Assumes nothing.
-use Rattle.std.proofs.Common.{◌≡◌, ℕ, ◌+◌, ◌-◌, ◌≤◌, true, false, cond, eqb, List, length, Some, sym, ap, ◌∙◌, subst, arith}
+use Rattle.std.proofs.Common.{◌≡◌, ℕ, ◌+◌, ◌-◌, ◌≤◌, true, false, cond, eqb, List, length, Some, Option, sym, ap, ◌∙◌, subst, arith}
 use Rattle.std.proofs.lemmas.Bool.{cond-true, cond-false, eq-eqb, ne_eqb}
 use Rattle.model.specs.Model as model
 use Rattle.model.specs.Kept.{NumIn, LinIn}
@@ -7,7 +7,7 @@ use Rattle.compose.specs.Agree.{Agree, Settled}
 use Rattle.compose.proofs.Trees.{amount_tree}
 use Rattle.grammar.specs.declared.Refusal.TheVariants.{Name, Range}
 use Rattle.grammar.specs.Grammar.{is_letter, Word, Num, Term, alone, times1, times2}
-use Rattle.grammar.specs.Reading.{ok, bad, then, byte, name, Names, find, an_array, array_there, one_place, num, place, after_num}
+use Rattle.grammar.specs.Reading.{ok, bad, then, byte, name, Names, Sort, find, an_array, array_there, one_place, num, place, after_num}
 use Rattle.grammar.specs.Says.{num_of, term_of, number_of, row_place, column_place}
 use Rattle.tokens.proofs.Steps.{then_ok}
 use Rattle.scope.specs.declared.Grid.{Grid}
@@ -43,9 +43,9 @@ module _ (x : List ℕ) (ns : Names) (left : ℕ) (e : Num) (m : ℕ) where
 
 -- behind the name of a variable
 module _ (x : List ℕ) (ns : Names) (left : ℕ) (e : Num) (at : ℕ) (w : Word) (z : ℕ) where
-  pub no_variable : name x at ≡ ok w z → array_there (find w ns) ≡ false → variable_at x ns left e at ≡ bad (Name at)
+  pub no_variable : (v : Word) (o : Option Sort) → name x at ≡ ok w z → w ≡ v → o ≡ find v ns → array_there o ≡ false → variable_at x ns left e at ≡ bad (Name at)
   unfolding variable_at
-  no_variable h i = then_ok _ h ∙ cond-false (array_there (find w ns)) _ _ i
+  no_variable v o h f g i = then_ok _ h ∙ cond-false (array_there (find w ns)) _ _ (ap (λ u. array_there (find u ns)) f ∙ ap array_there (sym g) ∙ i)
 
   pub variable_places : (g : Grid) → name x at ≡ ok w z → find w ns ≡ Some (an_array g.number g.rows g.columns)
       → variable_at x ns left e at ≡ then (place_at x g at left (num x ns (left - 1)) z) (λ p q. after_at x (placed (times1 e w) (times2 e w) p) q)

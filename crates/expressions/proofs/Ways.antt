@@ -1,9 +1,9 @@
 -- Ways of reading a number, by what stands at its place. Assumes nothing.
-use Rattle.std.proofs.Common.{◌≡◌, ℕ, zero, suc, ◌-◌, Bool, true, false, cond, not, ◌&&◌, eqb, List, [], ◌∷◌, Some, codes, sym, refl, ap, ◌∙◌, arith}
+use Rattle.std.proofs.Common.{◌≡◌, ℕ, zero, suc, ◌-◌, Bool, true, false, cond, not, ◌&&◌, eqb, List, [], ◌∷◌, Some, Option, codes, sym, refl, ap, ◌∙◌, arith}
 use Rattle.std.proofs.lemmas.Bool.{cond-true, cond-false, eq-eqb, ne_eqb, eqb-true, both_ways}
 use Rattle.grammar.specs.declared.Refusal.TheVariants.{Syntax, Name, Range}
 use Rattle.grammar.specs.Grammar.{is_letter, Word, Num, index, entry1, entry2}
-use Rattle.grammar.specs.Reading.{Got, ok, bad, then, byte, literal, name, Names, find, a_table, an_index, table_there, index_there, one_place, fixed_at, named, num, any_num, pair, place}
+use Rattle.grammar.specs.Reading.{Got, ok, bad, then, byte, literal, name, Names, Sort, find, a_table, an_index, table_there, index_there, one_place, fixed_at, named, num, any_num, pair, place}
 use Rattle.scope.specs.declared.Grid.{Grid}
 use Rattle.expressions.specs.Places.{Place, one_of, two_of, enough, place_at, second_at}
 
@@ -117,17 +117,17 @@ module _ (x : List ℕ) (enough : Bool) (start : ℕ) (inner : ℕ → Got Num) 
 -- NAMES
 
 module _ (x : List ℕ) (ns : Names) (left : ℕ) (inner : ℕ → Got Num) (start : ℕ) (w : Word) (e : ℕ) where
-  pub named_no_index : (byte x e ≡ 91 → ⊥) → index_there (find w ns) ≡ false → named x ns left inner start w e ≡ bad (Name start)
+  pub named_no_index : (o : Option Sort) → (byte x e ≡ 91 → ⊥) → o ≡ find w ns → index_there o ≡ false → named x ns left inner start w e ≡ bad (Name start)
   unfolding named
-  named_no_index n i = cond-false (eqb (byte x e) 91) _ _ (ne_eqb (byte x e) 91 n) ∙ cond-false (index_there (find w ns)) _ _ i
+  named_no_index o n f i = cond-false (eqb (byte x e) 91) _ _ (ne_eqb (byte x e) 91 n) ∙ cond-false (index_there (find w ns)) _ _ (ap index_there (sym f) ∙ i)
 
   pub named_index : (l : ℕ) → (byte x e ≡ 91 → ⊥) → find w ns ≡ Some (an_index l) → named x ns left inner start w e ≡ ok (index w) e
   unfolding named
   named_index l n i = cond-false (eqb (byte x e) 91) _ _ (ne_eqb (byte x e) 91 n) ∙ cond-true (index_there (find w ns)) _ _ (ap index_there i)
 
-  pub named_no_table : byte x e ≡ 91 → table_there (find w ns) ≡ false → named x ns left inner start w e ≡ bad (Name start)
+  pub named_no_table : (o : Option Sort) → byte x e ≡ 91 → o ≡ find w ns → table_there o ≡ false → named x ns left inner start w e ≡ bad (Name start)
   unfolding named
-  named_no_table b i = cond-true (eqb (byte x e) 91) _ _ (eq-eqb (byte x e) 91 b) ∙ cond-false (table_there (find w ns)) _ _ i
+  named_no_table o b f i = cond-true (eqb (byte x e) 91) _ _ (eq-eqb (byte x e) 91 b) ∙ cond-false (table_there (find w ns)) _ _ (ap table_there (sym f) ∙ i)
 
   pub named_table : (g : Grid) → byte x e ≡ 91 → find w ns ≡ Some (a_table g.number g.rows g.columns)
       → named x ns left inner start w e ≡ then (place_at x g start left inner e) (λ p z. ok (placed (entry1 w) (entry2 w) p) z)

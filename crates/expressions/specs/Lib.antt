@@ -1,6 +1,5 @@
 pub mod Made
 pub mod Places
-pub mod Finding
 pub mod Signs
 pub mod Conditions
 pub mod Sums

@@ -87,7 +87,7 @@ impl<'a> Context<'a> {
             return Err(Refusal::Range(start));
         }
         let end = name(self.text, first)?;
-        let Some(set) = self.set(Name { begin: first, end }) else {
+        let Some(Symbol::Set(set)) = self.scope.find(self.text, Name { begin: first, end }) else {
             return Err(Refusal::Name(first));
         };
         let begin = literal(self.text, b" ", end)?;

@@ -17,7 +17,7 @@ use crate::{At, Node, Places};
 use compose::{FIRST_NODE, Name};
 use grammar::Refusal;
 use model::{NumNode, Operator};
-use scope::Grid;
+use scope::{Grid, Symbol};
 use tokens::{is_at, is_letter_at, literal, look, name, numeral};
 
 // Numbers in a text are below this in size.
@@ -156,7 +156,7 @@ impl<'a> Context<'a> {
         ensures kept { Agree 0 free words.old words.new }
     {
         if !is_at(self.text, name.end, b'[') {
-            let Some(level) = self.index(name) else {
+            let Some(Symbol::Index(level)) = self.scope.find(self.text, name) else {
                 return Err(Refusal::Name(name.begin));
             };
             let next = write(words, free, NumNode::Index(level));
@@ -166,7 +166,7 @@ impl<'a> Context<'a> {
                 end: name.end,
             });
         }
-        let Some(table) = self.table(name) else {
+        let Some(Symbol::Table(table)) = self.scope.find(self.text, name) else {
             return Err(Refusal::Name(name.begin));
         };
         let cell = self.places(words, free, table, name.begin, name.end)?;

@@ -13,6 +13,7 @@ use crate::{Node, TermAt};
 use compose::Name;
 use grammar::Refusal;
 use model::{LinNode, TermNode};
+use scope::Symbol;
 use tokens::{LONGEST, is_at, is_letter_at, name};
 
 // What follows a term: a space, which is read, or not.
@@ -51,7 +52,7 @@ impl<'a> Context<'a> {
         ensures kept { Agree 0 number.next words.old words.new }
     {
         let end = name(self.text, at)?;
-        let Some(array) = self.array(Name { begin: at, end }) else {
+        let Some(Symbol::Array(array)) = self.scope.find(self.text, Name { begin: at, end }) else {
             return Err(Refusal::Name(at));
         };
         let cell = self.places(words, number.next, array, at, end)?;

@@ -1,9 +1,9 @@
-use Rattle.std.proofs.Common.{◌-◌, eqb, Ok, sym, ap, ◌∙◌, subst, arith}
+use Rattle.std.proofs.Common.{◌-◌, eqb, Ok, Some, sym, ap, ◌∙◌, subst, arith}
 use Rattle.std.proofs.lemmas.Bool.{cond-false, ne_eqb}
 use Rattle.compose.proofs.Trees.{index_tree, entry_tree, joined_tree}
 use Rattle.grammar.specs.Grammar.{joined, entry1, entry2, index}
 use Rattle.grammar.specs.Reading.{ok, num, pair}
-use Rattle.scope.specs.Names.{names_in, part}
+use Rattle.scope.specs.Names.{names_in, part, sort_of}
 use Rattle.tokens.specs.Told.{Told}
 use Rattle.tokens.proofs.Steps.{then_ok, then_bad, told_exit, told_on}
 use Rattle.expressions.specs.Places.{one_of, two_of, enough, place_at, PlacesMade}
@@ -18,11 +18,12 @@ named-returns-then-not-is_at-clause-told t c =
     let left = c.args.self.now.left in
     let name = c.args.name in
     let w = part x name in
+    let f = sym c.in-Some-Index.ensures ∙ ap (λ s. Some (sort_of s)) c.in-Some-Index.field-0-is in
     let k = c.write-next.ensures in (
       index w,
-      named_index x ns left (num x ns (left - 1)) name.begin w name.end c.in-Some.level (no_byte _ _ c.if-not-is_at.ensures) c.in-Some.ensures,
-      index_made x c.args.words.now c.write-next.new.words name c.args.free c.write-next.result c.in-Some.level ns w c.requires.name.0 c.requires.name.1 c.requires.room.0 c.requires.room.1 c.in-Some.ensures k.next
-          (index_tree c.args.words.now c.write-next.new.words c.args.free (omega arith) k.kept c.in-Some.level k.here),
+      named_index x ns left (num x ns (left - 1)) name.begin w name.end c.in-Some-Index.level (no_byte _ _ c.if-not-is_at.ensures) f,
+      index_made x c.args.words.now c.write-next.new.words name c.args.free c.write-next.result c.in-Some-Index.level ns w c.requires.name.0 c.requires.name.1 c.requires.room.0 c.requires.room.1 f k.next
+          (index_tree c.args.words.now c.write-next.new.words c.args.free (omega arith) k.kept c.in-Some-Index.level k.here),
     )
 
 pub named-returns-in_err-cell-clause-told : goal.named-returns-in_err-cell-clause-told
@@ -32,7 +33,8 @@ named-returns-in_err-cell-clause-told t c =
     let left = c.args.self.now.left in
     let name = c.args.name in
     let w = part x name in
-    let way = named_table x ns left (num x ns (left - 1)) name.begin w name.end c.in-Some-table.table (is_byte _ _ c.if-not-is_at.ensures) c.in-Some-table.ensures in
+    let f = sym c.in-Some-Table.ensures ∙ ap (λ s. Some (sort_of s)) c.in-Some-Table.field-0-is in
+    let way = named_table x ns left (num x ns (left - 1)) name.begin w name.end c.in-Some-Table.table (is_byte _ _ c.if-not-is_at.ensures) f in
     told_exit _ _ _ _ c.from_residual.result c.from_residual.ensures.1 (way ∙ then_bad _ c.in_err-cell.ensures.told)
 
 pub named-returns-clause-told : goal.named-returns-clause-told
@@ -42,8 +44,8 @@ named-returns-clause-told t c =
     let left = c.args.self.now.left in
     let name = c.args.name in
     let w = part x name in
-    let g = c.in-Some-table.table in
-    let f = c.in-Some-table.ensures in
+    let g = c.in-Some-Table.table in
+    let f = sym c.in-Some-Table.ensures ∙ ap (λ s. Some (sort_of s)) c.in-Some-Table.field-0-is in
     let way = named_table x ns left (num x ns (left - 1)) name.begin w name.end g (is_byte _ _ c.if-not-is_at.ensures) f in
     let (l, h, p) = c.in_ok-cell.ensures.told in
     let k = c.write-next-2.ensures in
