@@ -3,8 +3,8 @@ use denote.Enum.Declared.{tag_of}
 use Rattle.model.specs.contracts.Sign.{the_type}
 use Rattle.model.specs.declared.Sign.{Sign}
 use Rattle.model.specs.declared.Sign.TheVariants.{Positive, Negative}
-use Rattle.std.proofs.Common.{◌≡◌, ℕ, ◌+◌, ◌-◌, ◌<◌, ◌≤◌, List, [], ◌∷◌, length, set, sym, refl, ap, ◌∙◌, subst, arith, length-set}
-use Rattle.std.proofs.lemmas.List.{get_or-set_same, get_or-set_other}
+use Rattle.std.proofs.Common.{◌≡◌, ℕ, ◌+◌, ◌-◌, ◌*◌, ◌%◌, ◌<◌, ◌≤◌, List, [], ◌∷◌, ◌++◌, length, set, take, drop, sym, refl, ap, ◌∙◌, subst, arith, length-set}
+use Rattle.std.proofs.lemmas.List.{length-append, length-drop, length-take-le, get_or-set_same, get_or-set_other, get_or-append-add, get_or_append_left, get_or-take, get_or-drop}
 use Rattle.model.specs.Model as model
 use Rattle.model.specs.Words.{word}
 use Rattle.model.specs.Kept.{LinIn}
@@ -28,38 +28,72 @@ unfolding Stacked
 stacked_least ps n ws depth [] d e = omega arith
 stacked_least ps n ws depth (i ∷ is) d (e, f, g, h, j, t, s) = let l = stacked_least ps n ws depth is e s in omega arith
 
+-- two words for each
+pub stacked_even : (ps : List ℕ) (n : ℕ) (ws : List ℕ) (depth : ℕ) (is : List Item) (d : ℕ) → Stacked ps n ws depth is d → d ≡ depth + 2 * length is
+unfolding Stacked
+stacked_even ps n ws depth [] d e = omega arith
+stacked_even ps n ws depth (i ∷ is) d (e, f, g, h, j, t, s) = let l = stacked_even ps n ws depth is e s in omega arith
+
+-- words that are still to be gone through, from depth on
+abbrev pub Left : List ℕ → ℕ → List ℕ → Type 0
+Left ps depth rest = (i : ℕ) → i < length rest → word rest i ≡ word ps (depth + i)
+
+-- all of them at first
+pub left_all : (ps : List ℕ) (depth top m : ℕ) (over rest : List ℕ) → top ≤ length ps → top ≡ depth + 2 * m → take (top - depth) (drop depth ps) ≡ over ++ rest → length over ≡ length (take (top - depth) (drop depth ps)) % 2
+    → (depth + length rest ≡ top) × Left ps depth rest
+left_all ps depth top m over rest l f e z =
+    let a = length-drop depth ps in
+    let b : length (take (top - depth) (drop depth ps)) ≡ top - depth = length-take-le (top - depth) (drop depth ps) (omega arith) in
+    let y : length over ≡ 0 = omega arith in
+    let x : length over + length rest ≡ top - depth = sym (length-append over rest) ∙ ap length (sym e) ∙ b in (
+      omega arith,
+      λ i h.
+          sym (get_or-append-add over rest i 0) ∙ ap (λ k. word (over ++ rest) k) (omega arith) ∙ ap (λ l. word l i) (sym e)
+          ∙ get_or-take (top - depth) (drop depth ps) i 0 (omega arith) ∙ get_or-drop depth ps i 0,
+    )
+
 -- the newest of some that wait
-pub record Top (ps : List ℕ) (n : ℕ) (ws : List ℕ) (depth : ℕ) (js : List Item) (k : ℕ) : Type 0 where
+pub record Top (ps : List ℕ) (n : ℕ) (ws : List ℕ) (depth : ℕ) (js : List Item) (front two : List ℕ) : Type 0 where
   pub item : Item
   pub others : List Item
   pub all : js ≡ item ∷ others
-  pub two : depth + 2 ≤ k
-  pub sign : word ps (k - 2) ≡ sign_word item.sign
-  pub place : (1808 ≤ word ps (k - 2 + 1)) × (word ps (k - 2 + 1) < n)
-  pub tree : Zero ws → Settled 1808 n ws (λ vs. LinIn vs (word ps (k - 2 + 1)) item.term)
-  pub rest : Stacked ps n ws depth others (k - 2)
+  pub sign : word two 0 ≡ sign_word item.sign
+  pub place : (1808 ≤ word two 1) × (word two 1 < n)
+  pub tree : Zero ws → Settled 1808 n ws (λ vs. LinIn vs (word two 1) item.term)
+  pub rest : Stacked ps n ws depth others (depth + length front)
 
-pub top_of : (ps : List ℕ) (n : ℕ) (ws : List ℕ) (depth : ℕ) (js : List Item) (k : ℕ) → Stacked ps n ws depth js k → depth < k → Top ps n ws depth js k
-unfolding Stacked
-top_of ps n ws depth [] k s l = absurd (omega arith)
-top_of ps n ws depth (i ∷ is) k (e, f, g, h, j, t, s) l =
-    let z : e ≡ k - 2 = omega arith in
-    let m = stacked_least ps n ws depth is e s in
-    record {
-      item = i;
-      others = is;
-      all = refl;
-      two = omega arith;
-      sign = subst (λ y. word ps y ≡ sign_word i.sign) z g;
-      place = subst (λ y. (1808 ≤ word ps (y + 1)) × (word ps (y + 1) < n)) z (h, j);
-      tree = subst (λ y. Zero ws → Settled 1808 n ws (λ vs. LinIn vs (word ps (y + 1)) i.term)) z t;
-      rest = subst (Stacked ps n ws depth is) z s;
-    }
+module _ (ps : List ℕ) (depth : ℕ) (rest front two : List ℕ) (e : rest ≡ front ++ two) (l : length two ≡ 2) (w : Left ps depth rest) where
+  pub long_by_two : length rest ≡ length front + 2
+  long_by_two = ap length e ∙ length-append front two ∙ ap (λ k. length front + k) l
 
-pub none_left : (ps : List ℕ) (n : ℕ) (ws : List ℕ) (depth : ℕ) (js : List Item) (k : ℕ) (a : model.Lin) → Stacked ps n ws depth js k → k ≤ depth → chained js a ≡ a
+  word_of_two : (i : ℕ) → i < 2 → word two i ≡ word ps (depth + (length front + i))
+  word_of_two i h = let m = long_by_two in sym (get_or-append-add front two i 0) ∙ ap (λ l. word l (length front + i)) (sym e) ∙ w (length front + i) (omega arith)
+
+  pub left_front : Left ps depth front
+  left_front i h = let m = long_by_two in sym (get_or_append_left front two 0 i h) ∙ ap (λ l. word l i) (sym e) ∙ w i (omega arith)
+
+  pub top_of : (n : ℕ) (ws : List ℕ) (js : List Item) → Stacked ps n ws depth js (depth + length rest) → Top ps n ws depth js front two
+  unfolding Stacked
+  top_of n ws [] s = let m = long_by_two in absurd (omega arith)
+  top_of n ws (i ∷ is) (d, f, g, h, j, t, s) =
+      let m = long_by_two in
+      let z : d ≡ depth + length front = omega arith in
+      let p : word ps d ≡ word two 0 = ap (λ y. word ps y) (omega arith) ∙ sym (word_of_two 0 (omega arith)) in
+      let q : word ps (d + 1) ≡ word two 1 = ap (λ y. word ps y) (omega arith) ∙ sym (word_of_two 1 (omega arith)) in
+      record {
+        item = i;
+        others = is;
+        all = refl;
+        sign = sym p ∙ g;
+        place = (omega arith, omega arith);
+        tree = λ o. subst (λ y. Settled 1808 n ws (λ vs. LinIn vs y i.term)) q (t o);
+        rest = subst (Stacked ps n ws depth is) z s;
+      }
+
+pub none_left : (ps : List ℕ) (n : ℕ) (ws : List ℕ) (depth : ℕ) (js : List Item) (d : ℕ) → Stacked ps n ws depth js d → d < depth + 2 → (a : model.Lin) → chained js a ≡ a
 unfolding Stacked chained
-none_left ps n ws depth [] k a s l = refl
-none_left ps n ws depth (i ∷ is) k a (e, f, g, h, j, t, s) l = let m = stacked_least ps n ws depth is e s in absurd (omega arith)
+none_left ps n ws depth [] d s l a = refl
+none_left ps n ws depth (i ∷ is) d (e, f, g, h, j, t, s) l a = let m = stacked_least ps n ws depth is e s in absurd (omega arith)
 
 pub chained_top : (js is : List Item) (i : Item) (a : model.Lin) → js ≡ i ∷ is → chained js a ≡ chained is (model.chain i.sign i.term a)
 unfolding chained

@@ -84,16 +84,12 @@ pub(crate) fn chain(
     ensures kept { Agree 0 free words.old words.new }
     ensures tree { (is : List Item) → Stacked pending.now free words.old depth is top → Zero words.old → Settled 1808 result.next words.new (λ vs. LinIn vs result.place (chained is nothing)) }
 {
-    let mut k = top;
     let mut rest = 0;
     let mut next = free;
-    while k > depth {
-        k -= 2;
-        let place = next;
-        let sign = sign_of(pending[k]);
-        let node = LinNode::Chain(sign, pending[k + 1] as usize, rest);
-        next = write(words, place, node);
-        rest = place;
+    for waiting in pending[depth..top].rchunks_exact(2) {
+        let node = LinNode::Chain(sign_of(waiting[0]), waiting[1] as usize, rest);
+        rest = next;
+        next = write(words, next, node);
     }
     Chain { place: rest, next }
 }

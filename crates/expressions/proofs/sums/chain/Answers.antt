@@ -1,4 +1,5 @@
-use Rattle.std.proofs.Common.{◌+◌, ◌-◌, ◌<◌, sym, refl, ◌∙◌, subst, arith}
+use Rattle.std.specs.Slice.Exact.{rchunks_exact_rest, rchunks_exact_size}
+use Rattle.std.proofs.Common.{◌≡◌, ◌+◌, ◌-◌, ◌*◌, ◌<◌, length, sym, refl, ap, ◌∙◌, subst, arith}
 use Rattle.std.proofs.lemmas.Bool.{and_from, lt-ltb}
 use Rattle.model.specs.Words.{word}
 use Rattle.model.specs.Kept.{LinIn}
@@ -6,64 +7,83 @@ use Rattle.model.specs.Model as model
 use Rattle.compose.specs.Agree.{Settled}
 use Rattle.compose.proofs.Settled.{agree_self}
 use Rattle.compose.proofs.Trees.{nothing_tree, chain_tree}
+use Rattle.expressions.specs.Sums.{Stacked}
 use Rattle.expressions.proofs.NumberTrees.{agree_more, settled_on}
-use Rattle.expressions.proofs.Stacks.{top_of, none_left, chained_top, stacked_least}
+use Rattle.expressions.proofs.Stacks.{Left, left_all, left_front, long_by_two, top_of, none_left, chained_top, stacked_least, stacked_even}
 use Rattle.expressions.proofs.sums.chain.Goals as goal
 
-pub loop-k-init : goal.loop-k-init
-loop-k-init c = (
-  omega arith,
-  refl,
-  omega arith,
-  λ l. absurd (omega arith),
-  agree_self _ _ _,
-  λ is s. (is, model.nothing, s, refl, λ _. nothing_tree 1808 c.args.free c.args.words.now),
-)
-
-pub overflow_sub-k : goal.overflow_sub-k
-overflow_sub-k c =
+pub loop-waiting-init : goal.loop-waiting-init
+loop-waiting-init c =
     let (is, s) = c.requires.stacked in
-    let (js, a, t, e, r) = c.loop-k.invariant.5 is s in
-    let y = (top_of c.args.pending.now c.args.free c.args.words.now c.args.depth js c.loop-k.k t c.loop-k-test.true).two in
-    omega arith
+    let v = c.rchunks_exact-waiting-items.ensures in
+    let g = c.into_iter-waiting-iterator.ensures.into_iter_gives in
+    let (l, w) = left_all c.args.pending.now c.args.depth c.args.top (length is) _ _ c.requires.inside (stacked_even c.args.pending.now c.args.free c.args.words.now c.args.depth is c.args.top s) v.parts v.remainder_len in
+    let size = ap rchunks_exact_size g ∙ v.size in
+    let long = ap (λ i. c.args.depth + length (rchunks_exact_rest i)) g ∙ l in (
+      size,
+      omega arith,
+      subst (λ i. Left c.args.pending.now c.args.depth (rchunks_exact_rest i)) (sym g) w,
+      omega arith,
+      omega arith,
+      λ l. absurd (omega arith),
+      agree_self _ _ _,
+      λ is s. (is, model.nothing, subst (Stacked c.args.pending.now c.args.free c.args.words.now c.args.depth is) (sym long) s, refl, λ _. nothing_tree 1808 c.args.free c.args.words.now),
+    )
+
+pub bounds-waiting-1 : goal.bounds-waiting-1
+bounds-waiting-1 c = let l : length c.in-Some.waiting.now ≡ 2 = c.in-Some.ensures.steps.2.1 ∙ c.loop-waiting.invariant.0 in omega arith
+
+pub write-next-requires-clause-room : goal.write-next-requires-clause-room
+write-next-requires-clause-room c =
+    let m = long_by_two c.args.pending.now c.args.depth _ _ c.in-Some.waiting.now c.in-Some.ensures.steps.2.0 (c.in-Some.ensures.steps.2.1 ∙ c.loop-waiting.invariant.0) c.loop-waiting.invariant.2 in
+    let n = c.loop-waiting.invariant.3 in
+    (omega arith, omega arith)
 
 pub write-next-requires-clause-parts : goal.write-next-requires-clause-parts
 write-next-requires-clause-parts c =
     let (is, s) = c.requires.stacked in
-    let (js, a, t, e, r) = c.loop-k.invariant.5 is s in
-    let y = top_of c.args.pending.now c.args.free c.args.words.now c.args.depth js c.loop-k.k t c.loop-k-test.true in
+    let (js, a, t, e, r) = c.loop-waiting.invariant.7 is s in
+    let y = top_of c.args.pending.now c.args.depth _ _ c.in-Some.waiting.now c.in-Some.ensures.steps.2.0 (c.in-Some.ensures.steps.2.1 ∙ c.loop-waiting.invariant.0) c.loop-waiting.invariant.2 c.args.free c.args.words.now js t in
     let p = y.place in
-    let n = c.loop-k.invariant.1 in
-    let l : word c.args.pending.now (c.loop-k.k - 2 + 1) < c.loop-k.next = omega arith in
-    and_from _ _ (lt-ltb _ _ l) (lt-ltb _ _ c.loop-k.invariant.2)
+    let m = long_by_two c.args.pending.now c.args.depth _ _ c.in-Some.waiting.now c.in-Some.ensures.steps.2.0 (c.in-Some.ensures.steps.2.1 ∙ c.loop-waiting.invariant.0) c.loop-waiting.invariant.2 in
+    let n = c.loop-waiting.invariant.3 in
+    let l : word c.in-Some.waiting.now 1 < c.loop-waiting.next = omega arith in
+    and_from _ _ (lt-ltb _ _ l) (lt-ltb _ _ c.loop-waiting.invariant.4)
 
-pub loop-k-preserved : goal.loop-k-preserved
-loop-k-preserved c =
+pub loop-waiting-preserved : goal.loop-waiting-preserved
+loop-waiting-preserved c =
     let ps = c.args.pending.now in
     let us = c.args.words.now in
     let free = c.args.free in
-    let k = c.loop-k.k in
-    let next = c.loop-k.next in
+    let next = c.loop-waiting.next in
+    let front = rchunks_exact_rest c.next.new.self in
+    let two = c.in-Some.waiting.now in
+    let b = c.in-Some.ensures.steps.2.0 in
+    let l = c.in-Some.ensures.steps.2.1 ∙ c.loop-waiting.invariant.0 in
+    let v = c.loop-waiting.invariant.2 in
+    let m = long_by_two ps c.args.depth _ front two b l v in
+    let n = c.loop-waiting.invariant.3 in
+    let z = c.write-next.ensures.next in
     let (is, s) = c.requires.stacked in
-    let (js, a, t, e, r) = c.loop-k.invariant.5 is s in
-    let w = (top_of ps free us c.args.depth js k t c.loop-k-test.true).two in
-    let n = c.loop-k.invariant.1 in
-    let z = c.write-next.ensures.next in (
+    let (js, a, t, e, r) = c.loop-waiting.invariant.7 is s in
+    let p = (top_of ps c.args.depth _ front two b l v free us js t).place in (
+      c.in-Some.ensures.steps.0 ∙ c.loop-waiting.invariant.0,
       omega arith,
+      left_front ps c.args.depth _ front two b l v,
       omega arith,
       omega arith,
       λ _. omega arith,
-      agree_more free next us c.loop-k.words c.write-next.new.words (omega arith) c.loop-k.invariant.4 c.write-next.ensures.kept,
+      agree_more free next us c.loop-waiting.words c.write-next.new.words (omega arith) c.loop-waiting.invariant.6 c.write-next.ensures.kept,
       λ is s.
-          let (js, a, t, e, r) = c.loop-k.invariant.5 is s in
-          let y = top_of ps free us c.args.depth js k t c.loop-k-test.true in (
+          let (js, a, t, e, r) = c.loop-waiting.invariant.7 is s in
+          let y = top_of ps c.args.depth _ front two b l v free us js t in (
             y.others,
             model.chain y.item.sign y.item.term a,
             y.rest,
             e ∙ chained_top js y.others y.item a y.all,
             λ o. subst (λ m. Settled 1808 m c.write-next.new.words (λ vs. LinIn vs next (model.chain y.item.sign y.item.term a))) (sym z)
-                (subst (λ g. Settled 1808 (next + 3) c.write-next.new.words (λ vs. LinIn vs next (model.chain g y.item.term a))) (c.sign_of-sign.ensures y.item.sign y.sign)
-                (chain_tree c.loop-k.words c.write-next.new.words next (omega arith) c.write-next.ensures.kept _ _ y.item.term a (settled_on free next us c.loop-k.words _ c.loop-k.invariant.4 (omega arith) (y.tree o)) (r o) _ c.write-next.ensures.here)),
+                (subst (λ g. Settled 1808 (next + 3) c.write-next.new.words (λ vs. LinIn vs next (model.chain g y.item.term a))) (c.sign_of.ensures y.item.sign y.sign)
+                (chain_tree c.loop-waiting.words c.write-next.new.words next (omega arith) c.write-next.ensures.kept _ _ y.item.term a (settled_on free next us c.loop-waiting.words _ c.loop-waiting.invariant.6 (omega arith) (y.tree o)) (r o) _ c.write-next.ensures.here)),
           ),
     )
 
@@ -72,14 +92,16 @@ returns c =
     let ps = c.args.pending.now in
     let us = c.args.words.now in
     let (is, s) = c.requires.stacked in
-    let (js, a, t, e, r) = c.loop-k.invariant.5 is s in
-    let l = stacked_least ps c.args.free us c.args.depth js c.loop-k.k t in
-    let n = c.loop-k.invariant.1 in
+    let (js, a, t, e, r) = c.loop-waiting.invariant.7 is s in
+    let n = c.loop-waiting.invariant.3 in
+    let few = c.in-None.ensures.steps.2.0 in
+    let two = c.loop-waiting.invariant.0 in
+    let l = stacked_even ps c.args.free us c.args.depth js _ t in
     record {
       next = omega arith;
-      placed = (c.loop-k.invariant.3 (omega arith), c.loop-k.invariant.2);
-      kept = c.loop-k.invariant.4;
+      placed = (c.loop-waiting.invariant.5 (omega arith), c.loop-waiting.invariant.4);
+      kept = c.loop-waiting.invariant.6;
       tree = λ is s o.
-          let (js, a, t, e, r) = c.loop-k.invariant.5 is s in
-          subst (λ b. Settled 1808 c.loop-k.next c.loop-k.words (λ vs. LinIn vs c.loop-k.rest b)) (sym (e ∙ none_left ps c.args.free us c.args.depth js c.loop-k.k a t c.loop-k-test.false)) (r o);
+          let (js, a, t, e, r) = c.loop-waiting.invariant.7 is s in
+          subst (λ b. Settled 1808 c.loop-waiting.next c.loop-waiting.words (λ vs. LinIn vs c.loop-waiting.rest b)) (sym (e ∙ none_left ps c.args.free us c.args.depth js _ t (omega arith) a)) (r o);
     }
