@@ -16,7 +16,8 @@ pub(crate) struct Site<'a> {
     ghost few: { length indexes.now + nest ≤ 8 },
 }
 
-// The indexes in force and one more, with room for all that there may be.
+// The indexes in force and one more, with room for all that there may be: an array, since libraries
+// take no memory of their own.
 pub(crate) fn extended(indexes: &[u32], i: u32) -> [u32; 8]
     requires { length indexes.now < 8 }
     ensures { take (length indexes.now + 1) result ≡ bound indexes.now i }

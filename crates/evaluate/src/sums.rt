@@ -89,6 +89,7 @@ fn works(words: &[u64], k: usize) -> bool
     ensures { (l : Lin) → LinIn words.now k l → result ≡ sum_works (symbols_in words.now) l }
 {
     let mut at = k;
+    // not by an iterator: that a chain ends is told by its last node alone
     'chain: loop {
         let Some(node) = lin_node(words, at) else {
             return true;
@@ -184,6 +185,7 @@ impl<'a> Site<'a> {
     {
         let mut at = k;
         let mut running = so_far;
+        // not by an iterator: that a chain ends is told by its last node alone
         'chain: loop {
             match lin_node(self.words, at)? {
                 LinNode::Chain(inner, t, rest) => {

@@ -48,7 +48,8 @@ const NO_ENTRY: Entry = Entry {
     symbol: Symbol::Set(0),
 };
 
-// The names in force. They are kept in the order in which they came, and seen the newest first.
+// The names in force. They are kept in the order in which they came, and seen the newest first. An array
+// with a length, since libraries take no memory of their own and a scope is copied where a sum begins.
 #[derive(Clone, Copy)]
 pub struct Scope {
     entries: [Entry; MOST_NAMES],

@@ -69,7 +69,7 @@ pub fn word(text: &[u8], at: usize) -> Result<usize, Refusal>
     Err(Refusal::Range(LONGEST))
 }
 
-// The reserved word that these bytes spell.
+// The reserved word that these bytes spell. Not by TryFrom, which wants an error that nobody would read.
 pub fn reserved_word(word: &[u8]) -> Option<Reserved>
     ensures { Spells word.now result }
 {

@@ -1,5 +1,5 @@
 use Rattle.std.specs.Slice.Exact.{rchunks_exact_rest, rchunks_exact_size}
-use Rattle.std.proofs.Common.{◌≡◌, ◌+◌, ◌-◌, ◌*◌, ◌<◌, length, sym, refl, ap, ◌∙◌, subst, arith}
+use Rattle.std.proofs.Common.{◌≡◌, ◌+◌, ◌<◌, length, sym, refl, ap, ◌∙◌, subst, arith}
 use Rattle.std.proofs.lemmas.Bool.{and_from, lt-ltb}
 use Rattle.model.specs.Words.{word}
 use Rattle.model.specs.Kept.{LinIn}
@@ -9,7 +9,7 @@ use Rattle.compose.proofs.Settled.{agree_self}
 use Rattle.compose.proofs.Trees.{nothing_tree, chain_tree}
 use Rattle.expressions.specs.Sums.{Stacked}
 use Rattle.expressions.proofs.NumberTrees.{agree_more, settled_on}
-use Rattle.expressions.proofs.Stacks.{Left, left_all, left_front, long_by_two, top_of, none_left, chained_top, stacked_least, stacked_even}
+use Rattle.expressions.proofs.Stacks.{Left, left_all, left_front, long_by_two, top_of, none_left, chained_top, stacked_even}
 use Rattle.expressions.proofs.sums.chain.Goals as goal
 
 pub loop-waiting-init : goal.loop-waiting-init

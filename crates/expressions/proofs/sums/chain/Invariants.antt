@@ -1,5 +1,5 @@
 use Rattle.std.specs.Slice.Exact.{rchunks_exact_rest, rchunks_exact_size}
-use Rattle.std.proofs.Common.{◌≡◌, ℕ, ◌+◌, ◌*◌, ◌<◌, ◌≤◌, List, length}
+use Rattle.std.proofs.Common.{◌≡◌, ◌+◌, ◌*◌, ◌<◌, ◌≤◌, List, length}
 use Rattle.model.specs.Kept.{LinIn}
 use Rattle.model.specs.Model as model
 use Rattle.compose.specs.Agree.{Agree, Settled}
