@@ -168,18 +168,6 @@ both_made x us vs ws at here free ns g e f p q a r h k m w b = record {
   column = λ z. w.tree (zero_on free us vs r h z);
 }
 
--- a number, with what stands before and behind it
-pub second_made : (x us ws : List ℕ) (at here end free : ℕ) (ns : Names) (e : Num) (p : Node) → at ≤ here → p.end ≤ end → end ≤ length x → end ≤ 65536 → NumMade x ns here free us ws e p → NumMade x ns at free us ws e (record { place = p.place; next = p.next; end = end })
-second_made x us ws at here end free ns e p a b d s m = record {
-  onward = let y = m.onward in omega arith;
-  inside = d;
-  short = s;
-  words = let y = m.words in omega arith;
-  forward = m.forward;
-  placed = m.placed;
-  tree = m.tree;
-}
-
 pub only_end : (g : Grid) (p : Node) (e : ℕ) → (only_place g p e).end ≡ e
 only_end g p e = go (eqb g.columns 1) where
   go : (c : Bool) → (cond {A = Places} c (record { row = p.place; column = 1808; next = p.next; end = e }) (record { row = 1808; column = p.place; next = p.next; end = e })).end ≡ e

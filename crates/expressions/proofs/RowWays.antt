@@ -88,8 +88,8 @@ letter x at w e h = go (is_letter (byte x at)) h where
 
 -- us, vs, ws, ys, zs: before the constraint, behind its terms, its chain, its right side, its node
 pub sides_made : (x us vs ws ys zs ps : List ℕ) (ns : Names) (at here free next : ℕ) (o : Comparison) (r : Terms) (l : Lin) (p : Run) (q : Chain) (n : Node) → 1810 ≤ free → p.end + 2 ≤ here → next ≡ n.next + 3 → Agree 0 free us vs → Agree 0 p.next vs ws → Agree 0 q.next ws ys
-    → TermsMade x ns at free 0 ps vs r p → p.spaced ≡ true → 2 * q.next ≡ 2 * p.next + 3 * (p.top - 0) → (1808 ≤ q.place) × (q.place < q.next)
-    → ((is : List Item) → Stacked ps p.next vs 0 is p.top → Zero vs → Settled 1808 q.next ws (λ ks. LinIn ks q.place (chained is model.nothing))) → LinMade x ns here q.next ws ys l n
+    → TermsMade x ns at free ps vs r p → p.spaced ≡ true → 2 * q.next ≡ 2 * p.next + 3 * p.top → (1808 ≤ q.place) × (q.place < q.next)
+    → ((is : List Item) → Stacked ps p.next vs is p.top → Zero vs → Settled 1808 q.next ws (λ ks. LinIn ks q.place (chained is model.nothing))) → LinMade x ns here q.next ws ys l n
     → ((a b : model.Lin) → Settled 1808 n.next ys (λ ks. LinIn ks q.place a) → Settled 1808 n.next ys (λ ks. LinIn ks n.place b) → Settled 1808 (n.next + 3) zs (λ ks. ConstraintIn ks n.next (model.compare o a b)))
     → RowMade x ns at free us zs (compare (sides_of o l r)) (record { place = n.next; next = next; end = n.end })
 sides_made x us vs ws ys zs ps ns at here free next o r l p q n i a f s h k m b e c t w y =

@@ -1,7 +1,8 @@
 -- Sums that were read and written. Assumes nothing.
-use Rattle.std.proofs.Common.{◌≡◌, ℕ, ◌+◌, ◌-◌, ◌*◌, ◌<◌, ◌≤◌, List, ◌∷◌, length, set, subst, arith}
+use Rattle.std.proofs.Common.{◌≡◌, ℕ, ◌+◌, ◌*◌, ◌<◌, ◌≤◌, List, ◌∷◌, length, set, subst, arith}
 use Rattle.model.specs.declared.Sign.{Sign}
 use Rattle.model.specs.Model as model
+use Rattle.model.specs.Words.{word}
 use Rattle.model.specs.Kept.{LinIn}
 use Rattle.compose.specs.Agree.{Agree, Settled}
 use Rattle.grammar.specs.Grammar.{Term}
@@ -19,10 +20,10 @@ pub turns_enough : (n at : ℕ) → n < n + 1 + at
 turns_enough n at = omega arith
 
 -- us, vs, ws: before the sum, behind its terms, behind its chain
-pub lin_made : (x us vs ws ps : List ℕ) (ns : Names) (at free depth : ℕ) (r : Terms) (p : Run) (q : Chain) → 1810 ≤ free → Agree 0 free us vs → TermsMade x ns at free depth ps vs r p → 2 * q.next ≡ 2 * p.next + 3 * (p.top - depth)
-    → (1808 ≤ q.place) × (q.place < q.next) → ((is : List Item) → Stacked ps p.next vs depth is p.top → Zero vs → Settled 1808 q.next ws (λ zs. LinIn zs q.place (chained is model.nothing)))
+pub lin_made : (x us vs ws ps : List ℕ) (ns : Names) (at free : ℕ) (r : Terms) (p : Run) (q : Chain) → 1810 ≤ free → Agree 0 free us vs → TermsMade x ns at free ps vs r p → 2 * q.next ≡ 2 * p.next + 3 * p.top
+    → (1808 ≤ q.place) × (q.place < q.next) → ((is : List Item) → Stacked ps p.next vs is p.top → Zero vs → Settled 1808 q.next ws (λ zs. LinIn zs q.place (chained is model.nothing)))
     → LinMade x ns at free us ws (sum_of r) (record { place = q.place; next = q.next; end = p.end })
-lin_made x us vs ws ps ns at free depth r p q i s m e l t =
+lin_made x us vs ws ps ns at free r p q i s m e l t =
     let (is, k, a, f) = m.waiting in
     record {
       onward = m.onward;
@@ -35,8 +36,8 @@ lin_made x us vs ws ps ns at free depth r p q i s m e l t =
     }
 
 -- a term that was read waits above the others
-pub term_waits : (x ps qs us ws : List ℕ) (ns : Names) (here next top depth a : ℕ) (is : List Item) (g : Sign) (t : Term) (p : Node) → 1810 ≤ next → top + 2 ≤ length qs → a ≡ sign_word g → Agree 0 next us ws → Agree 0 top ps qs
-    → Stacked ps next us depth is top → Made x here next 3 us ws (λ vs k. LinIn vs k (term_of ns t)) p → Stacked (set (set qs top a) (top + 1) p.place) p.next ws depth ((record { sign = g; term = term_of ns t }) ∷ is) (top + 2)
-term_waits x ps qs us ws ns here next top depth a is g t p r l e s h st m =
-    stacked_push qs top a p.place l p.next ws depth is (record { sign = g; term = term_of ns t }) (let y = m.forward in omega arith) e m.placed.0 m.placed.1 (λ z. m.tree (zero_on next ws us r (agree_back s) z))
-    (stacked_on ps qs next p.next us ws depth is top r m.forward s h st)
+pub term_waits : (x ps qs us ws : List ℕ) (ns : Names) (here next top a : ℕ) (is : List Item) (g : Sign) (t : Term) (p : Node) → 1810 ≤ next → top + 2 ≤ length qs → a ≡ sign_word g → Agree 0 next us ws → ((k : ℕ) → k < top → word ps k ≡ word qs k)
+    → Stacked ps next us is top → Made x here next 3 us ws (λ vs k. LinIn vs k (term_of ns t)) p → Stacked (set (set qs top a) (top + 1) p.place) p.next ws ((record { sign = g; term = term_of ns t }) ∷ is) (top + 2)
+term_waits x ps qs us ws ns here next top a is g t p r l e s h st m =
+    stacked_push qs top a p.place l p.next ws is (record { sign = g; term = term_of ns t }) (let y = m.forward in omega arith) e m.placed.0 m.placed.1 (λ z. m.tree (zero_on next ws us r (agree_back s) z))
+    (stacked_on ps qs next p.next us ws is top r m.forward s h st)

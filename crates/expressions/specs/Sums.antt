@@ -129,9 +129,9 @@ SignRead x at o (Some s) = (o ≡ Some s.value) × (s.end ≡ at + 2) × (s.end 
 
 -- TERMS THAT WAIT. Two words each, the newest last: the sign and the place of the term's node
 
--- no more of them than four bytes each make
-abbrev pub Waiting : ℕ → ℕ → ℕ → Type 0
-Waiting len depth at = (32772 ≤ len) × (2 * depth ≤ at)
+-- enough for those that four bytes each make, of the bytes that are left
+abbrev pub Waiting : ℕ → ℕ → Type 0
+Waiting len at = 65544 ≤ 2 * len + at
 
 pub record Item : Type 0 where
   pub sign : Sign
@@ -141,28 +141,28 @@ abbrev pub sign_word : Sign → ℕ
 sign_word Positive = 12
 sign_word Negative = 13
 
--- the newest first, from place depth up to d of the words ps; n words of ws are written
-unfoldable pub Stacked : List ℕ → ℕ → List ℕ → ℕ → List Item → ℕ → Type 0
-Stacked ps n ws depth [] d = d ≡ depth
-Stacked ps n ws depth (i ∷ is) d =
-    (e : ℕ) × (d ≡ e + 2) × (word ps e ≡ sign_word i.sign) × (1808 ≤ word ps (e + 1)) × (word ps (e + 1) < n) × (Zero ws → Settled 1808 n ws (λ vs. LinIn vs (word ps (e + 1)) i.term)) × Stacked ps n ws depth is e
+-- the newest first, in the first d of the words ps; n words of ws are written
+unfoldable pub Stacked : List ℕ → ℕ → List ℕ → List Item → ℕ → Type 0
+Stacked ps n ws [] d = d ≡ 0
+Stacked ps n ws (i ∷ is) d =
+    (e : ℕ) × (d ≡ e + 2) × (word ps e ≡ sign_word i.sign) × (1808 ≤ word ps (e + 1)) × (word ps (e + 1) < n) × (Zero ws → Settled 1808 n ws (λ vs. LinIn vs (word ps (e + 1)) i.term)) × Stacked ps n ws is e
 
 -- the newest stand last in the sum
 unfoldable pub chained : List Item → model.Lin → model.Lin
 chained [] l = l
 chained (i ∷ is) l = chained is (model.chain i.sign i.term l)
 
--- terms that were read from `at` on, with their nodes from `free` on, and wait from depth on
-pub record TermsMade (x : List ℕ) (ns : Names) (at free depth : ℕ) (ps ws : List ℕ) (r : Terms) (p : Run) : Type 0 where
+-- terms that were read from `at` on, with their nodes from `free` on, and wait
+pub record TermsMade (x : List ℕ) (ns : Names) (at free : ℕ) (ps ws : List ℕ) (r : Terms) (p : Run) : Type 0 where
   pub onward : at < p.end
   pub inside : p.end ≤ length x
   pub short : p.end ≤ 65536
   pub spaced : p.spaced ≡ spaced_of r
   pub forward : free ≤ p.next
-  pub few : 2 * p.top ≤ p.end + 4
-  pub words : 6 * p.next + 8 * at + 9 * p.top ≤ 6 * free + 8 * p.end + 9 * depth + 24
-  pub sharp : p.spaced ≡ true → 6 * p.next + 8 * at + 9 * p.top ≤ 6 * free + 8 * p.end + 9 * depth + 16
-  pub waiting : (is : List Item) × Stacked ps p.next ws depth is p.top × (depth + 2 ≤ p.top) × (chained is model.nothing ≡ lin_behind Positive ns (sum_of r))
+  pub few : 2 * p.top + at ≤ p.end + 4
+  pub words : 6 * p.next + 8 * at + 9 * p.top ≤ 6 * free + 8 * p.end + 24
+  pub sharp : p.spaced ≡ true → 6 * p.next + 8 * at + 9 * p.top ≤ 6 * free + 8 * p.end + 16
+  pub waiting : (is : List Item) × Stacked ps p.next ws is p.top × (2 ≤ p.top) × (chained is model.nothing ≡ lin_behind Positive ns (sum_of r))
 
 -- a sum and a constraint
 abbrev pub LinMade : List ℕ → Names → ℕ → ℕ → List ℕ → List ℕ → Lin → Node → Type 0

@@ -87,14 +87,14 @@ impl<'a> Context<'a> {
         ensures told { Told (λ p. p.end) (RowMade self.now.text.now (names_in self.now.text.now self.now.scope.now) at free words.old words.new) (sides_at self.now.text.now (names_in self.now.text.now self.now.scope.now) (length self.now.text.now + 1) self.now.nest at) result }
         ensures kept { Agree 0 free words.old words.new }
     {
-        let found = self.terms(words, pending, 0, free, at)?;
+        let found = self.terms(words, pending, free, at)?;
         if !found.spaced {
             return Err(Refusal::Syntax(found.end));
         }
         let sign = comparison(self.text, found.end)?;
         let here = literal(self.text, b" ", sign.end)?;
-        let first = chain(words, pending, 0, found.top, found.next);
-        let second = self.linear(words, pending, 0, first.next, here)?;
+        let first = chain(words, &pending[..found.top], found.next);
+        let second = self.linear(words, pending, first.next, here)?;
         let node = ConstraintNode::Compare(sign.value, first.place, second.place);
         let next = write(words, second.next, node);
         Ok(Node {
@@ -195,7 +195,7 @@ pub fn linear_sum(
         left: MOST_BRACKETS,
         nest: MOST_NESTED,
     };
-    Some(around.linear(words, pending, 0, free, at))
+    Some(around.linear(words, pending, free, at))
 }
 
 // The constraint at a place, likewise.

@@ -2,7 +2,8 @@
 //
 // A sum is kept as a chain from its first term to its last, and a node's parts stand before it. So
 // the last term has to be chained first: terms wait in words of their own, two each, until the sum
-// ends, and are then chained from the last back to the first. A sum inside another waits above it.
+// ends, and are then chained from the last back to the first. A sum inside another is lent what is left
+// of those words.
 ghost use Rattle.std.specs.Prelude.{◌≡◌, ℕ, ◌+◌, ◌-◌, ◌*◌, ◌<◌, ◌≤◌, List, length, Some, None};
 ghost use Rattle.compose.specs.Agree.{Agree, Settled};
 ghost use Rattle.expressions.specs.Made.{Made, Room, Zero};
@@ -67,27 +68,20 @@ fn sign_after(text: &[u8], term: TermAt) -> Result<Option<At<Sign>>, Refusal>
     Ok(Some(At { value, end }))
 }
 
-// Chains the terms that wait from `depth` up to `top`, the last one first.
-pub(crate) fn chain(
-    words: &mut [u64],
-    pending: &[u64],
-    depth: usize,
-    top: usize,
-    free: usize,
-) -> Chain
-    requires some { depth + 2 ≤ top }
-    requires stacked { (is : List Item) × Stacked pending.now free words.old depth is top }
-    requires inside { top ≤ length pending.now }
-    requires room { (1810 ≤ free) × (6 * free + 9 * (top - depth) + 30 ≤ 6 * length words.old) }
-    ensures next { 2 * result.next ≡ 2 * free + 3 * (top - depth) }
+// Chains the terms that wait, the last one first.
+pub(crate) fn chain(words: &mut [u64], waiting: &[u64], free: usize) -> Chain
+    requires stacked { (is : List Item) × Stacked waiting.now free words.old is (length waiting.now) }
+    requires some { 2 ≤ length waiting.now }
+    requires room { (1810 ≤ free) × (6 * free + 9 * length waiting.now + 30 ≤ 6 * length words.old) }
+    ensures next { 2 * result.next ≡ 2 * free + 3 * length waiting.now }
     ensures placed { (1808 ≤ result.place) × (result.place < result.next) }
     ensures kept { Agree 0 free words.old words.new }
-    ensures tree { (is : List Item) → Stacked pending.now free words.old depth is top → Zero words.old → Settled 1808 result.next words.new (λ vs. LinIn vs result.place (chained is nothing)) }
+    ensures tree { (is : List Item) → Stacked waiting.now free words.old is (length waiting.now) → Zero words.old → Settled 1808 result.next words.new (λ vs. LinIn vs result.place (chained is nothing)) }
 {
     let mut rest = 0;
     let mut next = free;
-    for waiting in pending[depth..top].rchunks_exact(2) {
-        let node = LinNode::Chain(sign_of(waiting[0]), waiting[1] as usize, rest);
+    for term in waiting.rchunks_exact(2) {
+        let node = LinNode::Chain(sign_of(term[0]), term[1] as usize, rest);
         rest = next;
         next = write(words, next, node);
     }
@@ -115,17 +109,15 @@ impl<'a> Context<'a> {
         &self,
         words: &mut [u64],
         pending: &mut [u64],
-        depth: usize,
         free: usize,
         start: usize,
         at: usize,
     ) -> Result<Node, Refusal>
         requires room { Room (length words.old) free at }
-        requires waiting { Waiting (length pending.old) depth at }
+        requires waiting { Waiting (length pending.old) at }
         requires start { start + 3 ≤ at }
         ensures told { Told (λ p. p.end) (λ t p. Made self.now.text.now start free 3 words.old words.new (λ vs k. LinIn vs k (term_of (names_in self.now.text.now self.now.scope.now) t)) p) (sum_at self.now.text.now (names_in self.now.text.now self.now.scope.now) self.now.left (length self.now.text.now + 1) (deep_of self.now.nest) (inner_of self.now.text.now (length self.now.text.now + 1) self.now.nest) start at) result }
         ensures kept { Agree 0 free words.old words.new }
-        ensures held { Agree 0 depth pending.old pending.new }
     {
         let over = self.bound(start, at)?;
         let scope = self.inside(over.index);
@@ -149,7 +141,7 @@ impl<'a> Context<'a> {
             left: self.left - 1,
             nest: self.nest - 1,
         };
-        let body = inner.linear(words, pending, depth, only.next, first)?;
+        let body = inner.linear(words, pending, only.next, first)?;
         let end = literal(self.text, b")", body.end)?;
         let node = Over {
             set: over.set,
@@ -171,15 +163,13 @@ impl<'a> Context<'a> {
         &self,
         words: &mut [u64],
         pending: &mut [u64],
-        depth: usize,
         free: usize,
         at: usize,
     ) -> Result<TermAt, Refusal>
         requires room { Room (length words.old) free at }
-        requires waiting { Waiting (length pending.old) depth at }
+        requires waiting { Waiting (length pending.old) at }
         ensures told { Told (λ p. p.node.end) (TermMade self.now.text.now (names_in self.now.text.now self.now.scope.now) at free words.old words.new) (term_at self.now.text.now (names_in self.now.text.now self.now.scope.now) self.now.left (length self.now.text.now + 1) self.now.nest at) result }
         ensures kept { Agree 0 free words.old words.new }
-        ensures held { Agree 0 depth pending.old pending.new }
     {
         if !is_letter_at(self.text, at) {
             let first = self.number(words, free, at)?;
@@ -192,38 +182,36 @@ impl<'a> Context<'a> {
                 self.after_number(words, first)
             }
             Some(Lead::Sum) => {
-                let node = self.sum(words, pending, depth, free, at, end)?;
+                let node = self.sum(words, pending, free, at, end)?;
                 after(self.text, node)
             }
             None => Err(Refusal::Syntax(end)),
         }
     }
 
-    // Terms with signs between them, up to one that no sign follows. They wait from `depth` on.
+    // Terms with signs between them, up to one that no sign follows.
     #[cycle(linear)]
     #[tactic(auto, using(tokens::proofs::Steps::steps))]
     pub(crate) fn terms(
         &self,
         words: &mut [u64],
         pending: &mut [u64],
-        depth: usize,
         free: usize,
         at: usize,
     ) -> Result<Run, Refusal>
         requires room { Room (length words.old) free at }
-        requires waiting { Waiting (length pending.old) depth at }
+        requires waiting { Waiting (length pending.old) at }
         requires inside { at ≤ length self.now.text.now }
-        ensures told { (turns : ℕ) → length self.now.text.now < turns + at → Told (λ p. p.end) (TermsMade self.now.text.now (names_in self.now.text.now self.now.scope.now) at free depth pending.new words.new) (terms_at self.now.text.now (names_in self.now.text.now self.now.scope.now) self.now.left (length self.now.text.now + 1) self.now.nest turns at) result }
+        ensures told { (turns : ℕ) → length self.now.text.now < turns + at → Told (λ p. p.end) (TermsMade self.now.text.now (names_in self.now.text.now self.now.scope.now) at free pending.new words.new) (terms_at self.now.text.now (names_in self.now.text.now self.now.scope.now) self.now.left (length self.now.text.now + 1) self.now.nest turns at) result }
         ensures kept { Agree 0 free words.old words.new }
-        ensures held { Agree 0 depth pending.old pending.new }
     {
         let mut sign = Sign::Positive;
         let mut here = at;
-        let mut top = depth;
+        let mut top = 0;
         let mut next = free;
         // not by an iterator: whether a term follows is known only when the last was read
         loop {
-            let term = self.term(words, pending, top, next, here)?;
+            let term = self.term(words, &mut pending[top..], next, here)?;
             pending[top] = sign as u64;
             pending[top + 1] = term.node.place as u64;
             top += 2;
@@ -248,22 +236,20 @@ impl<'a> Context<'a> {
         &self,
         words: &mut [u64],
         pending: &mut [u64],
-        depth: usize,
         free: usize,
         at: usize,
     ) -> Result<Node, Refusal>
         requires room { Room (length words.old) free at }
-        requires waiting { Waiting (length pending.old) depth at }
+        requires waiting { Waiting (length pending.old) at }
         requires inside { at ≤ length self.now.text.now }
         ensures told { Told (λ p. p.end) (LinMade self.now.text.now (names_in self.now.text.now self.now.scope.now) at free words.old words.new) (lin_at self.now.text.now (length self.now.text.now + 1) self.now.nest (names_in self.now.text.now self.now.scope.now) self.now.left at) result }
         ensures kept { Agree 0 free words.old words.new }
-        ensures held { Agree 0 depth pending.old pending.new }
     {
-        let found = self.terms(words, pending, depth, free, at)?;
+        let found = self.terms(words, pending, free, at)?;
         if found.spaced {
             return Err(Refusal::Syntax(found.end));
         }
-        let sum = chain(words, pending, depth, found.top, found.next);
+        let sum = chain(words, &pending[..found.top], found.next);
         Ok(Node {
             place: sum.place,
             next: sum.next,

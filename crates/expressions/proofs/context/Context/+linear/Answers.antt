@@ -1,7 +1,9 @@
 use Rattle.compose.proofs.Trees.{sum_tree}
 use Rattle.expressions.proofs.Ways.{is_byte, no_byte}
-use Rattle.std.proofs.Common.{◌≡◌, suc, ◌+◌, ◌-◌, ◌≤◌, [], ◌∷◌, length, set, sym, refl, ap, ◌∙◌, arith}
+use Rattle.std.proofs.Common.{◌≡◌, suc, ◌+◌, ◌-◌, ◌≤◌, [], ◌∷◌, length, sym, refl, ap, ◌∙◌, arith}
 use Rattle.std.proofs.lemmas.Bool.{cond-true, cond-false}
+use Rattle.std.proofs.lemmas.List.{length-take-le}
+use borrow.Rule.Slice.PartMut.{put_mid, same_len_mid}
 use Rattle.compose.proofs.Settled.{agree_self}
 use Rattle.grammar.specs.Grammar.{member, reserved, sum_over}
 use Rattle.grammar.specs.Reading.{num, named, lin, with_index}
@@ -13,7 +15,7 @@ use Rattle.expressions.specs.Sums.{inner_of, deep_of, run_end, run_more, spaced_
 use Rattle.expressions.proofs.NumberTrees.{agree_more}
 use Rattle.expressions.proofs.TermTrees.{spaced_made}
 use Rattle.expressions.proofs.Follows.{lin_as}
-use Rattle.expressions.proofs.Stacks.{stacked_none, push_below, sign_tag, sign_is}
+use Rattle.expressions.proofs.Stacks.{stacked_none, stacked_take, lent_above, sign_tag, sign_is}
 use Rattle.expressions.proofs.Runs.{terms_bad, terms_broken, terms_last, terms_more, wrapped, one_more, the_last, wrapped_none, chained_none}
 use Rattle.expressions.proofs.SumWays.{deep_is, not_deep, inner_is, sum_as, body_none, body_deep, body_open, sum_made, term_number, term_broken, term_name, term_sum, term_stop}
 use Rattle.expressions.proofs.SumTrees.{lin_made, turns_enough, term_waits}
@@ -62,7 +64,11 @@ linear-chain-sum-requires t c =
     let f = p.forward in
     let i = p.short in
     let long = c.terms.ensures.kept.long in
-    record { some = l; stacked = (is, s); inside = let y = p.few in let z = c.terms.ensures.held.long in let v = c.requires.waiting.0 in omega arith; room = (omega arith, omega arith) }
+    let y = p.few in
+    let z = c.terms.auto.pending in
+    let j : run.top ≤ length c.terms.new.pending = omega arith in
+    let v = length-take-le run.top c.terms.new.pending j in
+    record { stacked = (is, stacked_take c.terms.new.pending run.next c.terms.new.words is run.top (omega arith) j s); some = omega arith; room = (omega arith, omega arith) }
 
 pub linear-returns-clause-told : goal.linear-returns-clause-told
 linear-returns-clause-told t c =
@@ -76,10 +82,15 @@ linear-returns-clause-told t c =
     let enough = turns_enough (length x) at in
     let (r, h, p) = c.in_ok-found.ensures.told most enough in
     let run = c.in_ok-found.found in
-    let k = c.chain-sum.ensures in (
+    let k = c.chain-sum.ensures in
+    let y = p.few in
+    let f = p.forward in
+    let z = c.terms.auto.pending in
+    let j : run.top ≤ length c.terms.new.pending = omega arith in
+    let v = length-take-le run.top c.terms.new.pending j in (
       sum_of r,
       way ∙ then_ok _ h ∙ cond-false (spaced_of r) _ _ (sym p.spaced ∙ c.if-found.false),
-      lin_made x c.args.words.now c.terms.new.words c.chain-sum.new.words c.terms.new.pending ns at c.args.free c.args.depth r run c.chain-sum.result c.requires.room.1 c.terms.ensures.kept p k.next k.placed k.tree,
+      lin_made x c.args.words.now c.terms.new.words c.chain-sum.new.words c.terms.new.pending ns at c.args.free r run c.chain-sum.result c.requires.room.1 c.terms.ensures.kept p (omega arith) k.placed (λ is st. k.tree is (stacked_take c.terms.new.pending run.next c.terms.new.words is run.top (omega arith) j st)),
     )
 
 pub sum-returns-in_err-over-clause-told : goal.sum-returns-in_err-over-clause-told
@@ -385,13 +396,11 @@ terms-loop-term-init t c =
       c.requires.room.0,
       omega arith,
       omega arith,
-      c.requires.waiting.1,
       omega arith,
-      agree_self _ _ _,
       agree_self _ _ _,
       (
         [],
-        stacked_none c.args.pending.now c.args.free c.args.words.now c.args.depth,
+        stacked_none c.args.pending.now c.args.free c.args.words.now,
         λ turns l. (turns, (λ r. r), l, wrapped_none (terms_at x (names_in x c.args.self.now.scope.now) c.args.self.now.left (length x + 1) c.args.self.now.nest turns c.args.at), λ r. (refl, chained_none _)),
       ),
     )
@@ -404,14 +413,12 @@ terms-returns-in_err-term-clause-told τ c =
     let most = length x + 1 in
     let nest = c.args.self.now.nest in
     let free = c.args.free in
-    let depth = c.args.depth in
     let here = c.loop-term.here in
     let top = c.loop-term.top in
     let next = c.loop-term.next in
     let inv = c.loop-term.invariant in
-    let (is, st, all) = inv.9 in
-    let kept = agree_more free next c.args.words.now c.loop-term.words c.term.new.words inv.3 inv.7 c.term.ensures.kept in
-    let held = agree_more depth top c.args.pending.now c.loop-term.pending c.term.new.pending inv.6 inv.8 c.term.ensures.held in
+    let (is, st, all) = inv.7 in
+    let kept = agree_more free next c.args.words.now c.loop-term.words c.term.new.words inv.3 inv.6 c.term.ensures.kept in
     λ turns l.
     let (f, W, m, e, r) = all turns l in
     let z : f ≡ suc (f - 1) = let i = inv.1 in omega arith in
@@ -425,26 +432,22 @@ terms-returns-in_err-another-clause-told τ c =
     let most = length x + 1 in
     let nest = c.args.self.now.nest in
     let free = c.args.free in
-    let depth = c.args.depth in
     let here = c.loop-term.here in
     let top = c.loop-term.top in
     let next = c.loop-term.next in
     let inv = c.loop-term.invariant in
-    let (is, st, all) = inv.9 in
-    let kept = agree_more free next c.args.words.now c.loop-term.words c.term.new.words inv.3 inv.7 c.term.ensures.kept in
-    let held = agree_more depth top c.args.pending.now c.loop-term.pending c.term.new.pending inv.6 inv.8 c.term.ensures.held in
+    let (is, st, all) = inv.7 in
+    let kept = agree_more free next c.args.words.now c.loop-term.words c.term.new.words inv.3 inv.6 c.term.ensures.kept in
     let (F, h, told) = c.in_ok-term.ensures.told in
     let (t, i, M, sp) = told in
     let term = c.in_ok-term.term in
     let e = term.node.end in
     let a = sign_tag c.loop-term.sign in
-    let qs = c.term.new.pending in
-    let long = c.term.ensures.held.long in
-    let few : top + 2 ≤ length qs = let y = inv.5 in let z = M.onward in let w = M.short in let v = c.requires.waiting.0 in let u = inv.8.long in omega arith in
-    let below = push_below qs top a term.node.place few in
-    let held_on = agree_more depth top c.args.pending.now qs (set (set qs top a) (top + 1) term.node.place) inv.6 held below in
+    let ps = c.loop-term.pending in
+    let qs = put_mid top (length ps - top) ps c.term.new.pending in
+    let few : top + 2 ≤ length qs = let y = inv.5 in let z = M.onward in let w = M.short in let u = same_len_mid top (length ps - top) ps c.term.new.pending c.term.auto.pending in omega arith in
     let r-next : 1810 ≤ next = let y = inv.3 in let z = c.requires.room.1 in omega arith in
-    let waits = term_waits x c.loop-term.pending qs c.loop-term.words c.term.new.words ns here next top depth a is c.loop-term.sign t term.node r-next few (sign_is c.loop-term.sign) c.term.ensures.kept c.term.ensures.held st M in
+    let waits = term_waits x c.loop-term.pending qs c.loop-term.words c.term.new.words ns here next top a is c.loop-term.sign t term.node r-next few (sign_is c.loop-term.sign) c.term.ensures.kept (lent_above top ps c.term.new.pending (omega arith)) st M in
     λ turns l.
     let (f, W, m, eq, r) = all turns l in
     let z : f ≡ suc (f - 1) = let y = inv.1 in omega arith in
@@ -459,26 +462,22 @@ terms-returns-in_default-clause-told τ c =
     let most = length x + 1 in
     let nest = c.args.self.now.nest in
     let free = c.args.free in
-    let depth = c.args.depth in
     let here = c.loop-term.here in
     let top = c.loop-term.top in
     let next = c.loop-term.next in
     let inv = c.loop-term.invariant in
-    let (is, st, all) = inv.9 in
-    let kept = agree_more free next c.args.words.now c.loop-term.words c.term.new.words inv.3 inv.7 c.term.ensures.kept in
-    let held = agree_more depth top c.args.pending.now c.loop-term.pending c.term.new.pending inv.6 inv.8 c.term.ensures.held in
+    let (is, st, all) = inv.7 in
+    let kept = agree_more free next c.args.words.now c.loop-term.words c.term.new.words inv.3 inv.6 c.term.ensures.kept in
     let (F, h, told) = c.in_ok-term.ensures.told in
     let (t, i, M, sp) = told in
     let term = c.in_ok-term.term in
     let e = term.node.end in
     let a = sign_tag c.loop-term.sign in
-    let qs = c.term.new.pending in
-    let long = c.term.ensures.held.long in
-    let few : top + 2 ≤ length qs = let y = inv.5 in let z = M.onward in let w = M.short in let v = c.requires.waiting.0 in let u = inv.8.long in omega arith in
-    let below = push_below qs top a term.node.place few in
-    let held_on = agree_more depth top c.args.pending.now qs (set (set qs top a) (top + 1) term.node.place) inv.6 held below in
+    let ps = c.loop-term.pending in
+    let qs = put_mid top (length ps - top) ps c.term.new.pending in
+    let few : top + 2 ≤ length qs = let y = inv.5 in let z = M.onward in let w = M.short in let u = same_len_mid top (length ps - top) ps c.term.new.pending c.term.auto.pending in omega arith in
     let r-next : 1810 ≤ next = let y = inv.3 in let z = c.requires.room.1 in omega arith in
-    let waits = term_waits x c.loop-term.pending qs c.loop-term.words c.term.new.words ns here next top depth a is c.loop-term.sign t term.node r-next few (sign_is c.loop-term.sign) c.term.ensures.kept c.term.ensures.held st M in
+    let waits = term_waits x c.loop-term.pending qs c.loop-term.words c.term.new.words ns here next top a is c.loop-term.sign t term.node r-next few (sign_is c.loop-term.sign) c.term.ensures.kept (lent_above top ps c.term.new.pending (omega arith)) st M in
     let s = told_none x e _ c.in_ok-another.field-0 c.in_default.is (c.in_ok-another.ensures.told t) in
     λ turns l.
     let (f, W, m, eq, r) = all turns l in
@@ -495,7 +494,7 @@ terms-returns-in_default-clause-told τ c =
         few = let y = M.onward in let w = inv.5 in omega arith;
         words = let y = M.words in let w = inv.4 in omega arith;
         sharp = λ b. let y = (sp b).1 in let w = inv.4 in omega arith;
-        waiting = ((record { sign = c.loop-term.sign; term = term_of ns t }) ∷ is, waits, (let w = inv.6 in omega arith), sym ((r last).1 ∙ the_last ns is c.loop-term.sign t term.spaced));
+        waiting = ((record { sign = c.loop-term.sign; term = term_of ns t }) ∷ is, waits, omega arith, sym ((r last).1 ∙ the_last ns is c.loop-term.sign t term.spaced));
       },
     )
 
@@ -507,26 +506,22 @@ terms-loop-term-smaller τ c =
     let most = length x + 1 in
     let nest = c.args.self.now.nest in
     let free = c.args.free in
-    let depth = c.args.depth in
     let here = c.loop-term.here in
     let top = c.loop-term.top in
     let next = c.loop-term.next in
     let inv = c.loop-term.invariant in
-    let (is, st, all) = inv.9 in
-    let kept = agree_more free next c.args.words.now c.loop-term.words c.term.new.words inv.3 inv.7 c.term.ensures.kept in
-    let held = agree_more depth top c.args.pending.now c.loop-term.pending c.term.new.pending inv.6 inv.8 c.term.ensures.held in
+    let (is, st, all) = inv.7 in
+    let kept = agree_more free next c.args.words.now c.loop-term.words c.term.new.words inv.3 inv.6 c.term.ensures.kept in
     let (F, h, told) = c.in_ok-term.ensures.told in
     let (t, i, M, sp) = told in
     let term = c.in_ok-term.term in
     let e = term.node.end in
     let a = sign_tag c.loop-term.sign in
-    let qs = c.term.new.pending in
-    let long = c.term.ensures.held.long in
-    let few : top + 2 ≤ length qs = let y = inv.5 in let z = M.onward in let w = M.short in let v = c.requires.waiting.0 in let u = inv.8.long in omega arith in
-    let below = push_below qs top a term.node.place few in
-    let held_on = agree_more depth top c.args.pending.now qs (set (set qs top a) (top + 1) term.node.place) inv.6 held below in
+    let ps = c.loop-term.pending in
+    let qs = put_mid top (length ps - top) ps c.term.new.pending in
+    let few : top + 2 ≤ length qs = let y = inv.5 in let z = M.onward in let w = M.short in let u = same_len_mid top (length ps - top) ps c.term.new.pending c.term.auto.pending in omega arith in
     let r-next : 1810 ≤ next = let y = inv.3 in let z = c.requires.room.1 in omega arith in
-    let waits = term_waits x c.loop-term.pending qs c.loop-term.words c.term.new.words ns here next top depth a is c.loop-term.sign t term.node r-next few (sign_is c.loop-term.sign) c.term.ensures.kept c.term.ensures.held st M in
+    let waits = term_waits x c.loop-term.pending qs c.loop-term.words c.term.new.words ns here next top a is c.loop-term.sign t term.node r-next few (sign_is c.loop-term.sign) c.term.ensures.kept (lent_above top ps c.term.new.pending (omega arith)) st M in
     let (s, k, u, v) = told_some x e _ c.in_ok-another.field-0 c.in-Some.another c.in-Some.is (c.in_ok-another.ensures.told t) in
     let y = M.onward in
     omega arith
@@ -539,26 +534,22 @@ terms-loop-term-preserved τ c =
     let most = length x + 1 in
     let nest = c.args.self.now.nest in
     let free = c.args.free in
-    let depth = c.args.depth in
     let here = c.loop-term.here in
     let top = c.loop-term.top in
     let next = c.loop-term.next in
     let inv = c.loop-term.invariant in
-    let (is, st, all) = inv.9 in
-    let kept = agree_more free next c.args.words.now c.loop-term.words c.term.new.words inv.3 inv.7 c.term.ensures.kept in
-    let held = agree_more depth top c.args.pending.now c.loop-term.pending c.term.new.pending inv.6 inv.8 c.term.ensures.held in
+    let (is, st, all) = inv.7 in
+    let kept = agree_more free next c.args.words.now c.loop-term.words c.term.new.words inv.3 inv.6 c.term.ensures.kept in
     let (F, h, told) = c.in_ok-term.ensures.told in
     let (t, i, M, sp) = told in
     let term = c.in_ok-term.term in
     let e = term.node.end in
     let a = sign_tag c.loop-term.sign in
-    let qs = c.term.new.pending in
-    let long = c.term.ensures.held.long in
-    let few : top + 2 ≤ length qs = let y = inv.5 in let z = M.onward in let w = M.short in let v = c.requires.waiting.0 in let u = inv.8.long in omega arith in
-    let below = push_below qs top a term.node.place few in
-    let held_on = agree_more depth top c.args.pending.now qs (set (set qs top a) (top + 1) term.node.place) inv.6 held below in
+    let ps = c.loop-term.pending in
+    let qs = put_mid top (length ps - top) ps c.term.new.pending in
+    let few : top + 2 ≤ length qs = let y = inv.5 in let z = M.onward in let w = M.short in let u = same_len_mid top (length ps - top) ps c.term.new.pending c.term.auto.pending in omega arith in
     let r-next : 1810 ≤ next = let y = inv.3 in let z = c.requires.room.1 in omega arith in
-    let waits = term_waits x c.loop-term.pending qs c.loop-term.words c.term.new.words ns here next top depth a is c.loop-term.sign t term.node r-next few (sign_is c.loop-term.sign) c.term.ensures.kept c.term.ensures.held st M in
+    let waits = term_waits x c.loop-term.pending qs c.loop-term.words c.term.new.words ns here next top a is c.loop-term.sign t term.node r-next few (sign_is c.loop-term.sign) c.term.ensures.kept (lent_above top ps c.term.new.pending (omega arith)) st M in
     let another = c.in-Some.another in
     let (s, k, u, v) = told_some x e _ c.in_ok-another.field-0 another c.in-Some.is (c.in_ok-another.ensures.told t) in
     let spaced = some_spaced x t e term.spaced another.value another.end s in
@@ -569,9 +560,7 @@ terms-loop-term-preserved τ c =
       (let y = M.forward in let w = inv.3 in omega arith),
       (let w = inv.4 in omega arith),
       (let w = inv.5 in omega arith),
-      (let w = inv.6 in omega arith),
       kept,
-      held_on,
       (
         (record { sign = c.loop-term.sign; term = term_of ns t }) ∷ is,
         waits,
@@ -591,3 +580,19 @@ pub linear-returns-clause-kept : goal.linear-returns-clause-kept
 linear-returns-clause-kept t c =
     let (r, h, p) = c.in_ok-found.ensures.told (length c.args.self.now.text.now + 1) (turns_enough (length c.args.self.now.text.now) c.args.at) in
     agree_more c.args.free c.in_ok-found.found.next c.args.words.now c.terms.new.words c.chain-sum.new.words p.forward c.terms.ensures.kept c.chain-sum.ensures.kept
+
+pub linear-slice_bounds-chain-end : goal.linear-slice_bounds-chain-end
+linear-slice_bounds-chain-end t c =
+    let (r, h, p) = c.in_ok-found.ensures.told (length c.args.self.now.text.now + 1) (turns_enough (length c.args.self.now.text.now) c.args.at) in
+    let y = p.few in
+    let i = p.short in
+    let z = c.terms.auto.pending in
+    omega arith
+
+pub linear-slice_bounds-chain-end-2 : goal.linear-slice_bounds-chain-end-2
+linear-slice_bounds-chain-end-2 t c =
+    let (r, h, p) = c.in_ok-found.ensures.told (length c.args.self.now.text.now + 1) (turns_enough (length c.args.self.now.text.now) c.args.at) in
+    let y = p.few in
+    let i = p.short in
+    let z = c.terms.auto.pending in
+    sym (length-take-le c.in_ok-found.found.top c.terms.new.pending (omega arith))

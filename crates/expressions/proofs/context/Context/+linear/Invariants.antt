@@ -27,12 +27,10 @@ invariant-terms-loop-term l =
     × (l.here ≤ length l.self.text.now)
     × (l.here ≤ 65536)
     × (l.free ≤ l.next)
-    × (6 * l.next + 8 * l.at + 9 * l.top ≤ 6 * l.free + 8 * l.here + 9 * l.depth)
-    × (2 * l.top ≤ l.here)
-    × (l.depth ≤ l.top)
+    × (6 * l.next + 8 * l.at + 9 * l.top ≤ 6 * l.free + 8 * l.here)
+    × (2 * l.top + l.at ≤ l.here)
     × Agree 0 l.free l.initial.words l.words
-    × Agree 0 l.depth l.initial.pending l.pending
-    × ((is : List Item) × Stacked l.pending l.next l.words l.depth is l.top
+    × ((is : List Item) × Stacked l.pending l.next l.words is l.top
     × ((turns : ℕ) → length l.self.text.now < turns + l.at → (f : ℕ) × (W : Terms → Terms) × (length l.self.text.now < f + l.here)
     × (terms_at l.self.text.now (names_in l.self.text.now l.self.scope.now) l.self.left (length l.self.text.now + 1) l.self.nest turns l.at ≡ then (terms_at l.self.text.now (names_in l.self.text.now l.self.scope.now) l.self.left (length l.self.text.now + 1) l.self.nest f l.here) (λ r z. ok (W r) z))
     × ((r : Terms) → (spaced_of (W r) ≡ spaced_of r) × (lin_behind Positive (names_in l.self.text.now l.self.scope.now) (sum_of (W r)) ≡ chained is (lin_behind l.sign (names_in l.self.text.now l.self.scope.now) (sum_of r))))))
