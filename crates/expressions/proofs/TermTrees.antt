@@ -5,7 +5,7 @@ use Rattle.model.specs.Model as model
 use Rattle.model.specs.Kept.{NumIn, LinIn}
 use Rattle.compose.specs.Agree.{Agree, Settled}
 use Rattle.compose.proofs.Trees.{amount_tree}
-use Rattle.grammar.specs.declared.Refusal.TheVariants.{Name, Range}
+use Rattle.grammar.specs.declared.Refusal.TheVariants.{Name}
 use Rattle.grammar.specs.Grammar.{is_letter, Word, Num, Term, alone, times1, times2}
 use Rattle.grammar.specs.Reading.{ok, bad, then, byte, name, Names, Sort, find, an_array, array_there, one_place, num, place, after_num}
 use Rattle.grammar.specs.Says.{num_of, term_of, number_of, row_place, column_place}
@@ -26,10 +26,6 @@ module _ (x : List ℕ) (ns : Names) (left : ℕ) (e : Num) (m : ℕ) where
   pub num_stop : (byte x m ≡ 32 → ⊥) → after_num_at x ns left e m ≡ ok (stops (alone e)) m
   unfolding after_num
   num_stop n = cond-false (eqb (byte x m) 32) _ _ (ne_eqb (byte x m) 32 n)
-
-  pub num_past : byte x m ≡ 32 → m ≡ 65536 → after_num_at x ns left e m ≡ bad (Range 65536)
-  unfolding after_num
-  num_past b p = cond-true (eqb (byte x m) 32) _ _ (eq-eqb (byte x m) 32 b) ∙ cond-true (eqb m 65536) _ _ (eq-eqb m 65536 p)
 
   num_on : byte x m ≡ 32 → (m ≡ 65536 → ⊥) → after_num_at x ns left e m ≡ cond (is_letter (byte x (m + 1))) (variable_at x ns left e (m + 1)) (ok (goes_on (alone e)) (m + 1))
   unfolding after_num variable_at
