@@ -26,7 +26,7 @@ fn misused(rt: &HostRuntime) -> io::Result<()> {
     Err(io::Error::other("two files are wanted"))
 }
 
-// Each program matches its own words: a function for all three would be no plainer.
+// Each program matches its own words: this one wants two files, the others take one or none.
 fn program(rt: &HostRuntime) -> io::Result<()> {
     // the first word is the program's own name
     let mut words = env::args(rt)?.skip(1);

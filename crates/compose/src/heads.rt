@@ -119,7 +119,8 @@ pub fn put_objective(words: &mut [u64], node: usize) -> Result<(), Unwritten>
     Ok(())
 }
 
-// The sort of a line and its number, 0 where there is none. Not by From: neither type is this crate's.
+// The sort of a line and its number, 0 where there is none. Not by From, which would
+// want a type of our own around the two words: neither type is this crate's.
 fn line_words(line: Option<Line>) -> [u64; 2]
     ensures { result ≡ line_sort line ∷ (line_number line ∷ []) }
 {

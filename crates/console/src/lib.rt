@@ -48,7 +48,8 @@ pub fn read(rt: &HostRuntime, program: &str, file: Option<&str>) -> io::Result<V
 
 // The status that a program ends with: 0, or 1 where its work could not be done. What a user can mend
 // (a file that cannot be read, wrong words) has been said on standard error by then; given back from
-// `main` the error would be printed once more, by its fields. Not by From: both types are the library's.
+// `main` the error would be printed once more, by its fields. Not by From,
+// which would want a type of our own around one of the library's two.
 pub fn status(done: io::Result<()>) -> ExitCode
     ensures { exit_status result ≡ (if is_ok done then 0 else 1) }
 {

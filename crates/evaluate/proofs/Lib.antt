@@ -1,4 +1,3 @@
 pub mod Nodes
 pub mod Working
-pub mod Indexes
 pub mod Runs

@@ -1,4 +1,3 @@
-pub mod Floors
 pub mod Order
 pub mod Ring
 pub mod Sizes

@@ -16,7 +16,7 @@ pub fn in_range(a: i64) -> Option<i64>
     (a.unsigned_abs() < LIMIT).then_some(a)
 }
 
-// Three functions, since one that is handed the operation would be no plainer.
+// Three functions: what they share is in_range, and all that is left of each is its operation.
 
 // The exact sum, or none where it is 2^62 or more in size.
 pub fn sum(a: i64, b: i64) -> Option<i64>

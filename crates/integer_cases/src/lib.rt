@@ -6,7 +6,6 @@
 mod tests {
     use integer::checked::{difference, floor_quotient, in_range, product, sum};
     use integer::fields::{Field, NoRoom, read, write};
-    use std::process::Abort;
 
     const LIMIT: i64 = 1 << 62;
 
@@ -137,12 +136,11 @@ mod tests {
     // A place, a number, whether it is written, and the bytes after.
     type Write<T> = (usize, T, Result<(), NoRoom>, [u8; 6]);
 
-    fn writes<T: Field>(rt: &impl Abort, cases: &[Write<T>]) {
-        for (at, v, want, after) in cases {
-            let mut bytes = [7; 6];
-            assert_eq!(rt; write(&mut bytes, *at, *v), *want);
-            assert_eq!(rt; bytes, *after);
-        }
+    // What is told of a number written among six bytes, and the bytes after.
+    fn written<T: Field>(at: usize, v: T) -> (Result<(), NoRoom>, [u8; 6]) {
+        let mut bytes = [7; 6];
+        let told = write(&mut bytes, at, v);
+        (told, bytes)
     }
 
     #[test]
@@ -156,7 +154,9 @@ mod tests {
             (usize::MAX - 3, 1, Err(NoRoom), [7; 6]),
             (usize::MAX, 1, Err(NoRoom), [7; 6]),
         ];
-        writes(&rt, &CASES);
+        for (at, v, want, after) in CASES {
+            assert_eq!(rt; written(at, v), (want, after));
+        }
     }
 
     #[test]
@@ -170,6 +170,8 @@ mod tests {
             (usize::MAX - 3, -1, Err(NoRoom), [7; 6]),
             (usize::MAX, -1, Err(NoRoom), [7; 6]),
         ];
-        writes(&rt, &CASES);
+        for (at, v, want, after) in CASES {
+            assert_eq!(rt; written(at, v), (want, after));
+        }
     }
 }

@@ -75,10 +75,7 @@ fn over(set: u64, filter: u64, body: u64) -> Over
 {
     Over {
         set: set as usize,
-        filter: match filter {
-            0 => None,
-            k => Some(k as usize),
-        },
+        filter: (filter != 0).then_some(filter as usize),
         body: body as usize,
     }
 }

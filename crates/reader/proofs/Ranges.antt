@@ -13,9 +13,6 @@ use Rattle.tokens.proofs.Counted.{value_told}
 use Rattle.reader.specs.Numbers.{Tells}
 use Rattle.reader.specs.Lines.{NumberRead, SizeRead}
 
-pub counts_tells : (x : List ℕ) (at : ℕ) (n : Numeral) (p : Number) → Counts x at n p → Tells n p
-counts_tells x at n p t = t.2
-
 pub number_made : (x : List ℕ) (most at : ℕ) (n : Numeral) (p : Number) → most ≤ 1000000 → Counts x at n p → leb (size n) most ≡ true → NumberRead x most at n p
 number_made x most at n p m t e =
     let l = leb-true (size n) most e in

@@ -26,7 +26,7 @@ fn run(rt: &HostRuntime, model: Option<&str>) -> io::Result<()> {
     print(rt, &text)
 }
 
-// Each program matches its own words: a function for all three would be no plainer.
+// Each program matches its own words: this one takes a file or none, `check` wants two.
 fn program(rt: &HostRuntime) -> io::Result<()> {
     // the first word is the program's own name
     match env::args(rt)?.nth(1).as_deref() {

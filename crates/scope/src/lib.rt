@@ -135,7 +135,7 @@ impl Scope {
     }
 
     // The entries in force, the oldest first.
-    fn in_force(&self) -> &[Entry]
+    pub fn entries(&self) -> &[Entry]
         ensures { self.now ≡ reverse result.now }
     {
         &self.entries[..self.count]
@@ -145,7 +145,7 @@ impl Scope {
     pub fn find(&self, text: &[u8], name: Name) -> Option<Symbol>
         ensures { sort_told result ≡ found_in (part_of text.now name) (names_in text.now self.now) }
     {
-        last_named(text, self.in_force(), part(text, name))
+        last_named(text, self.entries(), part(text, name))
     }
 
     // The scope with one more name; a scope that is full stays as it is.
@@ -169,6 +169,6 @@ impl Scope {
     pub fn indexes(&self) -> usize
         ensures { (x : List ℕ) → result ≡ levels (names_in x self.now) }
     {
-        count_indexes(self.in_force())
+        count_indexes(self.entries())
     }
 }

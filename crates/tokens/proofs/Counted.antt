@@ -7,8 +7,7 @@ use Rattle.grammar.specs.Grammar.{is_digit, is_top, Numeral, nought, whole, minu
 use Rattle.grammar.specs.Reading.{ok, bad, byte, in_length, digits_at, size, value, numeral}
 use Rattle.grammar.proofs.Bytes.{top_other}
 use Rattle.tokens.proofs.Steps.{inside, told_on}
-use Rattle.tokens.specs.declared.numbers.Number.{Number}
-use Rattle.tokens.specs.Sizes.{told_value, Counts, capped}
+use Rattle.tokens.specs.Sizes.{told_value, capped}
 
 pub capped_more : (n m c : ℕ) (ds : List ℕ) → m ≡ min (n * 10 + (c - 48)) 1000001 → capped m ds ≡ capped n (c ∷ ds)
 capped_more n m c ds e =
@@ -20,10 +19,6 @@ capped_more n m c ds e =
     let q = number_after_ge 10 a (map (λ c. c - 48) ds) (omega arith) in
     omega arith)
     (cases_lt a 1000001)
-
--- what begins a place further on
-pub counts_on : (x : List ℕ) (at : ℕ) → (at ≡ 65536 → ⊥) → (n : Numeral) (p : Number) → Counts x (at + 1) n p → Counts x at n p
-counts_on x at m n p t = (omega arith, t.1, t.2, λ l. t.3 (omega arith))
 
 -- DIGITS
 

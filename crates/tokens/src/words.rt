@@ -30,24 +30,24 @@ pub enum Reserved {
 const LONGEST_WORD: usize = 12;
 
 // a to z, which a word begins with.
-pub fn is_letter(c: u8) -> bool
+pub fn is_letter(c: u16) -> bool
     ensures { result ≡ is_letter c }
 {
-    matches!(c, b'a'..=b'z')
+    matches!(u8::try_from(c), Ok(b'a'..=b'z'))
 }
 
 // Whether a letter stands at a place.
 pub fn is_letter_at(text: &[u8], at: usize) -> bool
     ensures { result ≡ is_letter (byte text.now at) }
 {
-    look(text, at).is_some_and(is_letter)
+    look(text, at).is_some_and(|c| is_letter(c.into()))
 }
 
 // Whether a byte that may stand in a word stands at a place.
 fn is_word_at(text: &[u8], at: usize) -> bool
     ensures { result ≡ is_word (byte text.now at) }
 {
-    look(text, at).is_some_and(|c| c.is_ascii_digit() || is_letter(c))
+    look(text, at).is_some_and(|c| c.is_ascii_digit() || is_letter(c.into()))
 }
 
 // Where the word that stands at a place ends: a letter, and letters and digits. It may be reserved.
