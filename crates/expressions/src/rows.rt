@@ -147,19 +147,35 @@ impl<'a> Context<'a> {
     }
 }
 
-// Whether there is room for all that a text may still hold.
-fn ready(long: usize, len: usize, waits: usize, count: usize, free: usize, at: usize) -> bool
-    ensures { result ≡ is_ready long len waits count free at }
+// What is around a place outside of all sums and alls, where there is room for all that the text may
+// still hold.
+fn outside<'a>(
+    text: &'a [u8],
+    scope: &'a Scope,
+    words: &[u64],
+    pending: &[u64],
+    free: usize,
+    at: usize,
+) -> Option<Context<'a>>
+    ensures ready { is_some result ≡ is_ready (length text.now) (length words.now) (length pending.now) (length scope.now) free at }
+    ensures around { IfSome result (λ c. (c.text.now ≡ text.now) × (c.scope.now ≡ scope.now) × (c.left ≡ 64) × (c.nest ≡ 8)) }
 {
-    if at > long
+    let len = words.len();
+    if at > text.len()
         || at > LONGEST
         || free < FIRST_FREE
-        || waits < MOST_WAITING
-        || count > MOST_DECLARED
+        || pending.len() < MOST_WAITING
+        || scope.len() > MOST_DECLARED
+        || 3 * (free as u128) + 4 * ((LONGEST - at) as u128) + 60 > 3 * (len as u128)
     {
-        return false;
+        return None;
     }
-    3 * (free as u128) + 4 * ((LONGEST - at) as u128) + 60 <= 3 * (len as u128)
+    Some(Context {
+        text,
+        scope,
+        left: MOST_BRACKETS,
+        nest: MOST_NESTED,
+    })
 }
 
 // The linear sum at a place; nothing where there is no room for what a text may hold. Otherwise all of
@@ -179,22 +195,7 @@ pub fn linear_sum(
     ensures told { IfSome result (λ q. Told (λ p. p.end) (LinMade text.now (names_in text.now scope.now) at free words.old words.new) (lin_at text.now (length text.now + 1) 8 (names_in text.now scope.now) 64 at) q) }
     ensures kept { Agree 0 free words.old words.new }
 {
-    if !ready(
-        text.len(),
-        words.len(),
-        pending.len(),
-        scope.len(),
-        free,
-        at,
-    ) {
-        return None;
-    }
-    let around = Context {
-        text,
-        scope,
-        left: MOST_BRACKETS,
-        nest: MOST_NESTED,
-    };
+    let around = outside(text, scope, words, pending, free, at)?;
     Some(around.linear(words, pending, free, at))
 }
 
@@ -213,21 +214,6 @@ pub fn constraint(
     ensures told { IfSome result (λ q. Told (λ p. p.end) (RowMade text.now (names_in text.now scope.now) at free words.old words.new) (row_at text.now (length text.now + 1) 8 (names_in text.now scope.now) at) q) }
     ensures kept { Agree 0 free words.old words.new }
 {
-    if !ready(
-        text.len(),
-        words.len(),
-        pending.len(),
-        scope.len(),
-        free,
-        at,
-    ) {
-        return None;
-    }
-    let around = Context {
-        text,
-        scope,
-        left: MOST_BRACKETS,
-        nest: MOST_NESTED,
-    };
+    let around = outside(text, scope, words, pending, free, at)?;
     Some(around.row(words, pending, free, at))
 }
