@@ -1,5 +1,5 @@
 -- Ways of reading a term, and a sum over a set. Assumes nothing.
-use Rattle.std.proofs.Common.{◌≡◌, ℕ, zero, suc, ◌+◌, ◌-◌, ◌<◌, ◌≤◌, Bool, true, false, cond, eqb, List, length, Some, None, codes, Option, sym, refl, ap, ◌∙◌, subst, ⊎_elim, arith}
+use Rattle.std.proofs.Common.{◌≡◌, ℕ, zero, suc, ◌+◌, ◌-◌, ◌<◌, ◌≤◌, Bool, true, false, cond, eqb, List, length, get_or, Some, None, codes, Option, sym, refl, ap, ◌∙◌, subst, ⊎_elim, arith}
 use Rattle.std.specs.Str.{bytes_eq}
 use Rattle.std.proofs.lemmas.Slice.Eq.{bytes_eq-Decides}
 use Rattle.std.proofs.lemmas.Bool.{cond-true, cond-false, eq-eqb, ne_eqb, cases_Bool, false≢true}
@@ -12,8 +12,9 @@ use Rattle.grammar.specs.declared.Refusal.TheVariants.{Syntax, Range}
 use Rattle.grammar.specs.Grammar.{is_letter, Word, member, reserved, Cond, Term, Lin, sum_over}
 use Rattle.grammar.specs.Reading.{Got, ok, bad, then, byte, literal, word, name, Names, find, a_set, set_there, free, num, named, lin, header, sum_at, term_then, condition, with_index}
 use Rattle.grammar.specs.Says.{term_of, lin_behind, filter_of, number_of}
-use Rattle.tokens.specs.declared.Reserved.TheVariants.{Sum, All}
-use Rattle.tokens.specs.Spelling.{Spells}
+use Rattle.tokens.specs.declared.words.Reserved.{Reserved}
+use Rattle.tokens.specs.declared.words.Reserved.TheVariants.{Set, Table, Unknown, Least, Wish, From, To, Where, Sum, All, And, Or, Then}
+use Rattle.tokens.specs.Spelling.{Spells, spelled}
 use Rattle.tokens.proofs.Steps.{then_ok, then_bad}
 use Rattle.tokens.proofs.Named.{none_member}
 use Rattle.expressions.specs.declared.Node.{Node}
@@ -123,6 +124,22 @@ sum_made x us vs ws ys ns ms start at first free next end k b d l p q a o e i s 
 }
 
 -- TERMS
+
+-- only `sum` is spelled so
+pub is_sum : (w : Reserved) → spelled w ≡ codes "sum" → w ≡ Sum
+is_sum Set e = let y = ap (λ l. get_or l 0 0) e in let z = ap (λ l. get_or l 1 0) e in absurd (omega arith)
+is_sum Table e = let y = ap (λ l. get_or l 0 0) e in let z = ap (λ l. get_or l 1 0) e in absurd (omega arith)
+is_sum Unknown e = let y = ap (λ l. get_or l 0 0) e in let z = ap (λ l. get_or l 1 0) e in absurd (omega arith)
+is_sum Least e = let y = ap (λ l. get_or l 0 0) e in let z = ap (λ l. get_or l 1 0) e in absurd (omega arith)
+is_sum Wish e = let y = ap (λ l. get_or l 0 0) e in let z = ap (λ l. get_or l 1 0) e in absurd (omega arith)
+is_sum From e = let y = ap (λ l. get_or l 0 0) e in let z = ap (λ l. get_or l 1 0) e in absurd (omega arith)
+is_sum To e = let y = ap (λ l. get_or l 0 0) e in let z = ap (λ l. get_or l 1 0) e in absurd (omega arith)
+is_sum Where e = let y = ap (λ l. get_or l 0 0) e in let z = ap (λ l. get_or l 1 0) e in absurd (omega arith)
+is_sum Sum e = refl
+is_sum All e = let y = ap (λ l. get_or l 0 0) e in let z = ap (λ l. get_or l 1 0) e in absurd (omega arith)
+is_sum And e = let y = ap (λ l. get_or l 0 0) e in let z = ap (λ l. get_or l 1 0) e in absurd (omega arith)
+is_sum Or e = let y = ap (λ l. get_or l 0 0) e in let z = ap (λ l. get_or l 1 0) e in absurd (omega arith)
+is_sum Then e = let y = ap (λ l. get_or l 0 0) e in let z = ap (λ l. get_or l 1 0) e in absurd (omega arith)
 
 pub differs : (v w : Word) → (v ≡ w → ⊥) → bytes_eq v w ≡ false
 differs v w n = ⊎_elim (λ (t : bytes_eq v w ≡ true). absurd (n ((bytes_eq-Decides v w).0 t))) (λ (t : bytes_eq v w ≡ false). t) (cases_Bool (bytes_eq v w))

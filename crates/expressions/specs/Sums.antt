@@ -1,5 +1,5 @@
 -- Terms one after the other, with their signs, and the sums and sides that they make. Assumes nothing.
-use Rattle.std.specs.Prelude.{◌≡◌, ℕ, zero, suc, ◌+◌, ◌-◌, ◌*◌, ◌<◌, ◌≤◌, Bool, true, false, cond, ◌&&◌, List, [], ◌∷◌, length, Some, None, codes, Option, ◌==◌, ◌≢◌, nat_le}
+use Rattle.std.specs.Prelude.{◌≡◌, ℕ, zero, suc, ◌+◌, ◌-◌, ◌*◌, ◌<◌, ◌≤◌, Bool, true, false, cond, ◌&&◌, List, [], ◌∷◌, length, Some, None, codes, Option, ◌==◌, nat_le}
 use Rattle.compose.specs.Agree.{Settled}
 use Rattle.model.specs.declared.Sign.{Sign}
 use Rattle.model.specs.declared.Sign.TheVariants.{Positive, Negative}
@@ -8,12 +8,9 @@ use Rattle.model.specs.Model as model
 use Rattle.model.specs.Words.{word}
 use Rattle.model.specs.Kept.{LinIn, ConstraintIn}
 use Rattle.grammar.specs.declared.Refusal.TheVariants.{Syntax, Name, Range}
-use Rattle.grammar.specs.Grammar.{is_letter, Word, member, reserved, Num, Term, times1, times2, Lin, one, more, Sides, last, next, Row, compare}
+use Rattle.grammar.specs.Grammar.{is_letter, Word, Num, Term, times1, times2, Lin, one, more, Sides, last, next, Row, compare}
 use Rattle.grammar.specs.Reading.{Got, ok, bad, then, byte, literal, word as read_word, name, Names, find, array_there, one_place, num, place, after, after_num, term_then, sign, lin, is_sign, taken, comparison}
 use Rattle.grammar.specs.Says.{term_of, lin_behind, row_of}
-use Rattle.tokens.specs.Spelling.{Spells}
-use Rattle.expressions.specs.declared.Lead.{Lead}
-use Rattle.expressions.specs.declared.Lead.TheVariants as lead
 use Rattle.expressions.specs.declared.Node.{Node}
 use Rattle.expressions.specs.declared.TermAt.{TermAt}
 use Rattle.std.specs.Str.{bytes_eq}
@@ -38,12 +35,6 @@ inner_of x most (suc nest) = lin x most nest
 abbrev pub deep_of : ℕ → Bool
 deep_of zero = true
 deep_of (suc nest) = false
-
--- what a word begins
-abbrev pub Leads : Word → Option Lead → Type 0
-Leads w (Some lead.Sum) = w ≡ codes "sum"
-Leads w (Some lead.Name) = Spells w None
-Leads w None = (w ≢ codes "sum") × (member w reserved ≡ true)
 
 -- a term, where no `all` may stand
 abbrev pub term_at : List ℕ → Names → ℕ → ℕ → ℕ → ℕ → Got Follow

@@ -39,7 +39,7 @@ pub struct Places {
     pub end: usize,
 }
 
-// A relation, a comparison or a sign, and where it ends.
+// An operator, a relation, a comparison or a sign, and where it ends.
 #[derive(Clone, Copy, Debug, PartialEq)]
 pub struct At<T> {
     pub value: T,
@@ -63,7 +63,7 @@ pub struct Filter {
 
 // A term, and whether a space follows it, which then belongs to it: what the space begins is not
 // known before the byte behind it.
-// A flag, since the term is there with a space and without.
+// A flag, since an enum would only say twice where the node is.
 #[derive(Clone, Copy, Debug, PartialEq)]
 pub struct TermAt {
     pub node: Node,
@@ -86,11 +86,4 @@ pub struct Run {
 pub struct Chain {
     pub place: usize,
     pub next: usize,
-}
-
-// What a word begins where a term stands: a sum over a set, or a name.
-#[derive(Clone, Copy, Debug, PartialEq)]
-pub enum Lead {
-    Sum,
-    Name,
 }

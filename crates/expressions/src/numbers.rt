@@ -212,7 +212,7 @@ impl<'a> Context<'a> {
         })
     }
 
-    // A number, with so many brackets that may still be opened within each other.
+    // A number: one in brackets, one as it stands, or what a name begins.
     #[cycle(number)]
     #[tactic(auto, using(tokens::proofs::Steps::steps, tokens::proofs::Steps::told_on, crate::proofs::Ways::num_pair, crate::proofs::Ways::num_fixed, crate::proofs::Ways::num_named))]
     pub(crate) fn number(&self, words: &mut [u64], free: usize, at: usize) -> Result<Node, Refusal>

@@ -104,7 +104,7 @@ impl<'a> Context<'a> {
         })
     }
 
-    // A constraint, with so many alls and sums that may still stand within each other.
+    // A constraint: two sums, compared, or a constraint for all of a set.
     #[tactic(auto, using(tokens::proofs::Steps::steps, tokens::proofs::Steps::told_on))]
     fn row(
         &self,
@@ -199,7 +199,8 @@ pub fn linear_sum(
     Some(around.linear(words, pending, free, at))
 }
 
-// The constraint at a place, likewise.
+// The constraint at a place, likewise. Two functions: what they share is `outside`, and all that is left of
+// each is what it reads.
 pub fn constraint(
     text: &[u8],
     scope: &Scope,

@@ -7,7 +7,7 @@
 ghost use Rattle.std.specs.Prelude.{◌≡◌, ℕ, ◌+◌, ◌-◌, ◌*◌, ◌<◌, ◌≤◌, List, length, Some, None};
 ghost use Rattle.compose.specs.Agree.{Agree, Settled};
 ghost use Rattle.expressions.specs.Made.{Made, Room, Zero};
-ghost use Rattle.expressions.specs.Sums.{Follow, Item, Leads, LinMade, SignRead, Stacked, TermMade, TermsMade, Waiting, chained, deep_of, followed, inner_of, sign_after, sign_end, sign_of as signed_by, sign_word as word_of, term_at, terms_at};
+ghost use Rattle.expressions.specs.Sums.{Follow, Item, LinMade, SignRead, Stacked, TermMade, TermsMade, Waiting, chained, deep_of, followed, inner_of, sign_after, sign_end, sign_of as signed_by, sign_word as word_of, term_at, terms_at};
 ghost use Rattle.grammar.specs.Grammar.{Term};
 ghost use Rattle.grammar.specs.Reading.{byte, lin as lin_at, sum_at};
 ghost use Rattle.grammar.specs.Says.{term_of};
@@ -20,11 +20,11 @@ ghost use Rattle.tokens.specs.Told.{Told};
 use crate::context::Context;
 use crate::nodes::write;
 use crate::terms::after;
-use crate::{At, Chain, Lead, Node, Run, TermAt};
+use crate::{At, Chain, Node, Run, TermAt};
 use compose::Name;
 use grammar::Refusal;
 use model::{LinNode, Over, Sign};
-use tokens::{LONGEST, is_at, is_letter_at, literal, look, reserved_word, word};
+use tokens::{LONGEST, Reserved, is_at, is_letter_at, literal, look, reserved_word, word};
 
 // The sign at a place, if one stands there.
 fn sign_at(text: &[u8], at: usize) -> Option<Sign>
@@ -37,7 +37,7 @@ fn sign_at(text: &[u8], at: usize) -> Option<Sign>
     }
 }
 
-// The sign that a word is. A number for a kind, since terms wait in lent words.
+// The sign that a word is, since terms wait in lent words. Not by TryFrom, since no other word is there.
 fn sign_of(word: u64) -> Sign
     ensures { (g : ASign) → word ≡ word_of g → result ≡ g }
 {
@@ -86,19 +86,6 @@ pub(crate) fn chain(words: &mut [u64], waiting: &[u64], free: usize) -> Chain
         next = write(words, next, node);
     }
     Chain { place: rest, next }
-}
-
-// What a term begins with that begins with this word; none if it is another reserved word.
-fn leading(word: &[u8]) -> Option<Lead>
-    ensures { Leads word.now result }
-{
-    match word {
-        b"sum" => Some(Lead::Sum),
-        _ => match reserved_word(word) {
-            Some(_) => None,
-            None => Some(Lead::Name),
-        },
-    }
 }
 
 impl<'a> Context<'a> {
@@ -176,17 +163,15 @@ impl<'a> Context<'a> {
             return self.after_number(words, first);
         }
         let end = word(self.text, at)?;
-        match leading(&self.text[at..end]) {
-            Some(Lead::Name) => {
-                let first = self.named(words, free, Name { begin: at, end })?;
-                self.after_number(words, first)
-            }
-            Some(Lead::Sum) => {
-                let node = self.sum(words, pending, free, at, end)?;
-                after(self.text, node)
-            }
-            None => Err(Refusal::Syntax(end)),
+        let Some(reserved) = reserved_word(&self.text[at..end]) else {
+            let first = self.named(words, free, Name { begin: at, end })?;
+            return self.after_number(words, first);
+        };
+        if reserved != Reserved::Sum {
+            return Err(Refusal::Syntax(end));
         }
+        let node = self.sum(words, pending, free, at, end)?;
+        after(self.text, node)
     }
 
     // Terms with signs between them, up to one that no sign follows.
@@ -229,7 +214,7 @@ impl<'a> Context<'a> {
         }
     }
 
-    // A sum, with so many sums that may still stand within each other, and brackets.
+    // A sum, and nothing behind it that it could go on with.
     #[cycle(linear)]
     #[tactic(auto, using(tokens::proofs::Steps::steps))]
     pub(crate) fn linear(

@@ -9,6 +9,11 @@ use Rattle.grammar.specs.Grammar.{member, reserved, sum_over}
 use Rattle.grammar.specs.Reading.{num, named, lin, with_index}
 use Rattle.grammar.specs.Says.{term_of}
 use Rattle.scope.specs.Names.{names_in}
+use denote.Enum.Bare.{differs_false, differs_true}
+use Rattle.tokens.specs.contracts.words.Reserved.{the_type}
+use Rattle.tokens.specs.declared.words.Reserved.TheVariants.{Sum}
+use Rattle.tokens.specs.Spelling.{spelled}
+use Rattle.tokens.proofs.Named.{some_member}
 use Rattle.tokens.proofs.Steps.{then_ok, then_bad, told_exit, told_on}
 use Rattle.expressions.specs.Conditions.{bound_at, filter_at}
 use Rattle.expressions.specs.Sums.{inner_of, deep_of, run_end, run_more, spaced_of, sum_of, terms_at}
@@ -17,7 +22,7 @@ use Rattle.expressions.proofs.TermTrees.{spaced_made}
 use Rattle.expressions.proofs.Follows.{lin_as}
 use Rattle.expressions.proofs.Stacks.{stacked_none, stacked_take, lent_above, sign_tag, sign_is}
 use Rattle.expressions.proofs.Runs.{terms_bad, terms_broken, terms_last, terms_more, wrapped, one_more, the_last, wrapped_none, chained_none}
-use Rattle.expressions.proofs.SumWays.{deep_is, not_deep, inner_is, sum_as, body_none, body_deep, body_open, sum_made, term_number, term_broken, term_name, term_sum, term_stop}
+use Rattle.expressions.proofs.SumWays.{deep_is, not_deep, inner_is, sum_as, body_none, body_deep, body_open, sum_made, term_number, term_broken, term_name, term_sum, term_stop, is_sum}
 use Rattle.expressions.proofs.SumTrees.{lin_made, turns_enough, term_waits}
 use Rattle.expressions.proofs.SignsAfter.{told_none, told_some, some_spaced}
 use Rattle.expressions.proofs.context.Context.+linear.Goals as goal
@@ -313,8 +318,8 @@ term-returns-in_err-end-clause-told t c =
     let letter = sym c.if-not-is_letter_at.ensures in
     told_exit _ _ _ _ c.from_residual-in_err-end.result c.from_residual-in_err-end.ensures.1 (term_broken x ns left most nest at _ letter c.in_err-end.ensures.told)
 
-pub term-returns-in_err-first-in-Some-Name-clause-told : goal.term-returns-in_err-first-in-Some-Name-clause-told
-term-returns-in_err-first-in-Some-Name-clause-told t c =
+pub term-returns-in_err-first-2-clause-told : goal.term-returns-in_err-first-2-clause-told
+term-returns-in_err-first-2-clause-told t c =
     let x = c.args.self.now.text.now in
     let ns = names_in x c.args.self.now.scope.now in
     let left = c.args.self.now.left in
@@ -324,12 +329,12 @@ term-returns-in_err-first-in-Some-Name-clause-told t c =
     let letter = sym c.if-not-is_letter_at.ensures in
     let (w, h, p) = c.in_ok-end.ensures.told in
     let end = c.in_ok-end.end in
-    let way = term_name x ns left most nest at w end letter h (λ k e. (rw c.in-Some-Name.field-0-is at c.in-Some-Name.ensures) k (sym p.2 ∙ e)) in
+    let way = term_name x ns left most nest at w end letter h (λ k e. c.in_default.ensures k (sym p.2 ∙ e)) in
     let e1 = ap (λ v. named x ns left (num x ns (left - 1)) at v end) p.2 in
-    told_exit _ _ _ _ c.from_residual-in_err-first-in-Some-Name.result c.from_residual-in_err-first-in-Some-Name.ensures.1 (way ∙ then_bad _ (e1 ∙ c.in_err-first-in-Some-Name.ensures.told))
+    told_exit _ _ _ _ c.from_residual-in_err-first-2.result c.from_residual-in_err-first-2.ensures.1 (way ∙ then_bad _ (e1 ∙ c.in_err-first-2.ensures.told))
 
-pub term-returns-in_ok-first-in-Some-Name-clause-told : goal.term-returns-in_ok-first-in-Some-Name-clause-told
-term-returns-in_ok-first-in-Some-Name-clause-told t c =
+pub term-returns-in_default-clause-told : goal.term-returns-in_default-clause-told
+term-returns-in_default-clause-told t c =
     let x = c.args.self.now.text.now in
     let ns = names_in x c.args.self.now.scope.now in
     let left = c.args.self.now.left in
@@ -339,14 +344,14 @@ term-returns-in_ok-first-in-Some-Name-clause-told t c =
     let letter = sym c.if-not-is_letter_at.ensures in
     let (w, h, p) = c.in_ok-end.ensures.told in
     let end = c.in_ok-end.end in
-    let way = term_name x ns left most nest at w end letter h (λ k e. (rw c.in-Some-Name.field-0-is at c.in-Some-Name.ensures) k (sym p.2 ∙ e)) in
+    let way = term_name x ns left most nest at w end letter h (λ k e. c.in_default.ensures k (sym p.2 ∙ e)) in
     let e1 = ap (λ v. named x ns left (num x ns (left - 1)) at v end) p.2 in
-    let (n, i, q) = c.in_ok-first-in-Some-Name.ensures.told in
+    let (n, i, q) = c.in_ok-first-2.ensures.told in
     let s = c.named.ensures.kept in
-    told_on _ _ _ _ _ c.after_number-in-Some-Name.result (way ∙ then_ok _ (e1 ∙ i)) (λ f r o. o) (c.after_number-in-Some-Name.ensures.told n at c.args.free c.args.words.now c.requires.room.1 s q)
+    told_on _ _ _ _ _ c.after_number-in_default.result (way ∙ then_ok _ (e1 ∙ i)) (λ f r o. o) (c.after_number-in_default.ensures.told n at c.args.free c.args.words.now c.requires.room.1 s q)
 
-pub term-returns-in_err-node-in-Some-Sum-clause-told : goal.term-returns-in_err-node-in-Some-Sum-clause-told
-term-returns-in_err-node-in-Some-Sum-clause-told t c =
+pub term-returns-in_err-node-clause-told : goal.term-returns-in_err-node-clause-told
+term-returns-in_err-node-clause-told t c =
     let x = c.args.self.now.text.now in
     let ns = names_in x c.args.self.now.scope.now in
     let left = c.args.self.now.left in
@@ -356,11 +361,11 @@ term-returns-in_err-node-in-Some-Sum-clause-told t c =
     let letter = sym c.if-not-is_letter_at.ensures in
     let (w, h, p) = c.in_ok-end.ensures.told in
     let end = c.in_ok-end.end in
-    let way = term_sum x ns left most nest at w end letter h (p.2 ∙ (rw c.in-Some-Sum.field-0-is at c.in-Some-Sum.ensures)) in
-    told_exit _ _ _ _ c.from_residual-in_err-node-in-Some-Sum.result c.from_residual-in_err-node-in-Some-Sum.ensures.1 (way ∙ then_bad _ c.in_err-node-in-Some-Sum.ensures.told)
+    let way = term_sum x ns left most nest at w end letter h (p.2 ∙ c.in-Some.ensures ∙ ap spelled (differs_false the_type tt c.in-Some.reserved Sum (sym c.if-ne.ensures))) in
+    told_exit _ _ _ _ c.from_residual-in_err-node.result c.from_residual-in_err-node.ensures.1 (way ∙ then_bad _ c.in_err-node.ensures.told)
 
-pub term-returns-in_ok-node-in-Some-Sum-clause-told : goal.term-returns-in_ok-node-in-Some-Sum-clause-told
-term-returns-in_ok-node-in-Some-Sum-clause-told t c =
+pub term-returns-clause-told : goal.term-returns-clause-told
+term-returns-clause-told t c =
     let x = c.args.self.now.text.now in
     let ns = names_in x c.args.self.now.scope.now in
     let left = c.args.self.now.left in
@@ -370,12 +375,12 @@ term-returns-in_ok-node-in-Some-Sum-clause-told t c =
     let letter = sym c.if-not-is_letter_at.ensures in
     let (w, h, p) = c.in_ok-end.ensures.told in
     let end = c.in_ok-end.end in
-    let way = term_sum x ns left most nest at w end letter h (p.2 ∙ (rw c.in-Some-Sum.field-0-is at c.in-Some-Sum.ensures)) in
-    let (s, i, q) = c.in_ok-node-in-Some-Sum.ensures.told in
-    told_on _ _ _ _ _ c.after.result (way ∙ then_ok _ i) (λ f r o. spaced_made x c.args.words.now c.sum.new.words ns at c.args.free s c.in_ok-node-in-Some-Sum.node f r o q) (c.after.ensures.told s)
+    let way = term_sum x ns left most nest at w end letter h (p.2 ∙ c.in-Some.ensures ∙ ap spelled (differs_false the_type tt c.in-Some.reserved Sum (sym c.if-ne.ensures))) in
+    let (s, i, q) = c.in_ok-node.ensures.told in
+    told_on _ _ _ _ _ c.after.result (way ∙ then_ok _ i) (λ f r o. spaced_made x c.args.words.now c.sum.new.words ns at c.args.free s c.in_ok-node.node f r o q) (c.after.ensures.told s)
 
-pub term-returns-in-None-clause-told : goal.term-returns-in-None-clause-told
-term-returns-in-None-clause-told t c =
+pub term-returns-then-ne-clause-told : goal.term-returns-then-ne-clause-told
+term-returns-then-ne-clause-told t c =
     let x = c.args.self.now.text.now in
     let ns = names_in x c.args.self.now.scope.now in
     let left = c.args.self.now.left in
@@ -385,8 +390,9 @@ term-returns-in-None-clause-told t c =
     let letter = sym c.if-not-is_letter_at.ensures in
     let (w, h, p) = c.in_ok-end.ensures.told in
     let end = c.in_ok-end.end in
-    let n = c.in-None.ensures in
-    term_stop x ns left most nest at w end letter h (λ e. n.0 (sym p.2 ∙ e)) (ap (λ v. member v reserved) p.2 ∙ n.1)
+    term_stop x ns left most nest at w end letter h
+    (λ e. differs_true the_type c.in-Some.reserved Sum (sym c.if-ne.ensures) (is_sum c.in-Some.reserved (sym c.in-Some.ensures ∙ sym p.2 ∙ e)))
+    (ap (λ v. member v reserved) p.2 ∙ some_member _ c.in-Some.reserved c.in-Some.ensures)
 
 pub terms-loop-term-init : goal.terms-loop-term-init
 terms-loop-term-init t c =
