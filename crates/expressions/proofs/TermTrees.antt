@@ -7,7 +7,7 @@ use Rattle.compose.specs.Agree.{Agree, Settled}
 use Rattle.compose.proofs.Trees.{amount_tree}
 use Rattle.grammar.specs.declared.Refusal.TheVariants.{Name}
 use Rattle.grammar.specs.Grammar.{is_letter, Word, Num, Term, alone, times1, times2}
-use Rattle.grammar.specs.Reading.{ok, bad, then, byte, name, Names, Sort, find, an_array, array_there, one_place, num, place, after_num}
+use Rattle.grammar.specs.Reading.{ok, bad, then, byte, name, Names, Sort, find, an_array, array_there, one_place, num, place, after, after_num}
 use Rattle.grammar.specs.Says.{num_of, term_of, number_of, row_place, column_place}
 use Rattle.tokens.proofs.Steps.{then_ok}
 use Rattle.scope.specs.declared.Grid.{Grid}
@@ -16,23 +16,32 @@ use Rattle.expressions.specs.declared.Places.{Places}
 use Rattle.expressions.specs.declared.TermAt.{TermAt}
 use Rattle.expressions.specs.Made.{Made, NumMade}
 use Rattle.expressions.specs.Places.{Place, one_of, two_of, enough, place_at, row_of, column_of, PlacesMade}
-use Rattle.expressions.specs.Sums.{Follow, stops, goes_on, after_at, after_num_at, variable_at, Spaced, TermMade}
+use Rattle.expressions.specs.Sums.{Follow, goes_on, after_at, after_num_at, variable_at, Spaced, TermMade}
 use Rattle.expressions.proofs.Ways.{placed, place_as, then_then}
 use Rattle.expressions.proofs.NumberTrees.{settled_on, zero_on}
 
 -- WAYS
 
 module _ (x : List ℕ) (ns : Names) (left : ℕ) (e : Num) (m : ℕ) where
-  pub num_stop : (byte x m ≡ 32 → ⊥) → after_num_at x ns left e m ≡ ok (stops (alone e)) m
-  unfolding after_num
-  num_stop n = cond-false (eqb (byte x m) 32) _ _ (ne_eqb (byte x m) 32 n)
-
   num_on : byte x m ≡ 32 → (m ≡ 65536 → ⊥) → after_num_at x ns left e m ≡ cond (is_letter (byte x (m + 1))) (variable_at x ns left e (m + 1)) (ok (goes_on (alone e)) (m + 1))
   unfolding after_num variable_at
   num_on b n = cond-true (eqb (byte x m) 32) _ _ (eq-eqb (byte x m) 32 b) ∙ cond-false (eqb m 65536) _ _ (ne_eqb m 65536 n)
 
-  pub num_space : byte x m ≡ 32 → (m ≡ 65536 → ⊥) → is_letter (byte x (m + 1)) ≡ false → after_num_at x ns left e m ≡ ok (goes_on (alone e)) (m + 1)
-  num_space b n l = num_on b n ∙ cond-false (is_letter (byte x (m + 1))) _ _ l
+  -- where no variable stands behind it, a number is a term of its own
+  pub num_stop : (byte x m ≡ 32 → ⊥) → after_num_at x ns left e m ≡ after_at x (alone e) m
+  unfolding after_num after
+  num_stop n = cond-false (eqb (byte x m) 32) _ _ (ne_eqb (byte x m) 32 n) ∙ sym (cond-false (eqb (byte x m) 32) _ _ (ne_eqb (byte x m) 32 n))
+
+  pub num_past : byte x m ≡ 32 → m ≡ 65536 → after_num_at x ns left e m ≡ after_at x (alone e) m
+  unfolding after_num after
+  num_past b p =
+      let c = eq-eqb (byte x m) 32 b in
+      cond-true (eqb (byte x m) 32) _ _ c ∙ cond-true (eqb m 65536) _ _ (eq-eqb m 65536 p) ∙ sym (cond-true (eqb (byte x m) 32) _ _ c ∙ cond-true (eqb m 65536) _ _ (eq-eqb m 65536 p))
+
+  pub num_space : byte x m ≡ 32 → (m ≡ 65536 → ⊥) → is_letter (byte x (m + 1)) ≡ false → after_num_at x ns left e m ≡ after_at x (alone e) m
+  unfolding after
+  num_space b n l =
+      num_on b n ∙ cond-false (is_letter (byte x (m + 1))) _ _ l ∙ sym (cond-true (eqb (byte x m) 32) _ _ (eq-eqb (byte x m) 32 b) ∙ cond-false (eqb m 65536) _ _ (ne_eqb m 65536 n))
 
   pub num_variable : byte x m ≡ 32 → (m ≡ 65536 → ⊥) → is_letter (byte x (m + 1)) ≡ true → after_num_at x ns left e m ≡ variable_at x ns left e (m + 1)
   num_variable b n l = num_on b n ∙ cond-true (is_letter (byte x (m + 1))) _ _ l

@@ -80,25 +80,12 @@ impl<'a> Context<'a> {
             Told (λ p. p.node.end) (TermMade self.now.text.now (names_in self.now.text.now self.now.scope.now) begin free us words.new) (after_num_at self.now.text.now (names_in self.now.text.now self.now.scope.now) self.now.left e number.end) result }
         ensures kept { Agree 0 number.next words.old words.new }
     {
-        if !is_at(self.text, number.end, b' ') {
-            return Ok(TermAt {
-                node: number,
-                spaced: false,
-            });
+        if is_at(self.text, number.end, b' ')
+            && number.end != LONGEST
+            && is_letter_at(self.text, number.end + 1)
+        {
+            return self.variable(words, number, number.end + 1);
         }
-        if number.end == LONGEST {
-            return Err(Refusal::Range(LONGEST));
-        }
-        let here = number.end + 1;
-        if is_letter_at(self.text, here) {
-            return self.variable(words, number, here);
-        }
-        Ok(TermAt {
-            node: Node {
-                end: here,
-                ..number
-            },
-            spaced: true,
-        })
+        after(self.text, number)
     }
 }
