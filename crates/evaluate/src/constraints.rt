@@ -82,7 +82,7 @@ impl<'a> Site<'a> {
             let inner = Site {
                 words: self.words,
                 values: self.values,
-                indexes: &all[..self.indexes.len() + 1],
+                indexes: all.as_slice(),
                 nest: self.nest - 1,
             };
             if !inner.instance_met(over)? {

@@ -1,6 +1,8 @@
 // Where sums and constraints are worked out.
-ghost use Rattle.std.specs.Prelude.{◌≡◌, ◌+◌, ◌<◌, ◌≤◌, length, take};
+ghost use Rattle.std.specs.Prelude.{◌≡◌, ◌+◌, ◌<◌, ◌≤◌, length};
 ghost use Rattle.model.specs.Meaning.{bound};
+
+use arrayvec::ArrayVec;
 
 // Sums and alls stand within each other at most so deep.
 pub(crate) const MOST_NESTED: usize = 8;
@@ -16,14 +18,13 @@ pub(crate) struct Site<'a> {
     ghost few: { length indexes.now + nest ≤ 8 },
 }
 
-// The indexes in force and one more, with room for all that there may be: an array, since libraries
-// take no memory of their own.
-pub(crate) fn extended(indexes: &[u32], i: u32) -> [u32; 8]
+// The indexes in force and one more.
+pub(crate) fn extended(indexes: &[u32], i: u32) -> ArrayVec<u32, MOST_NESTED>
     requires { length indexes.now < 8 }
-    ensures { take (length indexes.now + 1) result ≡ bound indexes.now i }
+    ensures { result.items ≡ bound indexes.now i }
 {
-    let mut all = [0u32; 8];
-    all[0..indexes.len()].copy_from_slice(indexes);
-    all[indexes.len()] = i;
+    let mut all = ArrayVec::new();
+    all.try_extend_from_slice(indexes).unwrap();
+    all.push(i);
     all
 }

@@ -89,7 +89,7 @@ fn works(words: &[u64], k: usize) -> bool
     ensures { (l : Lin) → LinIn words.now k l → result ≡ sum_works (symbols_in words.now) l }
 {
     let mut at = k;
-    // not by an iterator: that a chain ends is told by its last node alone
+    // not by an iterator: a chain ends with a part of another sort, and that it ends is told by that alone
     'chain: loop {
         let Some(node) = lin_node(words, at) else {
             return true;
@@ -168,7 +168,7 @@ impl<'a> Site<'a> {
             let inner = Site {
                 words: self.words,
                 values: self.values,
-                indexes: &all[..self.indexes.len() + 1],
+                indexes: all.as_slice(),
                 nest: self.nest - 1,
             };
             running = inner.add_summand(over, sign, running)?;
@@ -185,7 +185,7 @@ impl<'a> Site<'a> {
     {
         let mut at = k;
         let mut running = so_far;
-        // not by an iterator: that a chain ends is told by its last node alone
+        // not by an iterator: a chain ends with a part of another sort, and that it ends is told by that alone
         'chain: loop {
             match lin_node(self.words, at)? {
                 LinNode::Chain(inner, t, rest) => {

@@ -49,7 +49,7 @@ const NO_ENTRY: Entry = Entry {
 };
 
 // The names in force. They are kept in the order in which they came, and seen the newest first. An array
-// with a length, since libraries take no memory of their own and a scope is copied where a sum begins.
+// with a length, since a scope is copied where a sum begins, and neither a Vec nor an ArrayVec is Copy.
 #[derive(Clone, Copy)]
 pub struct Scope {
     entries: [Entry; MOST_NAMES],

@@ -1,7 +1,6 @@
-use Rattle.std.proofs.Common.{◌≡◌, ◌+◌, true, false, length, take, Some, None, sym, refl, ap, ◌∙◌, arith}
+use Rattle.std.proofs.Common.{◌≡◌, ◌+◌, true, false, Some, None, sym, refl, ap, ◌∙◌, arith}
 use Rattle.model.specs.Evaluation.{run, instance, where_so, worked_constraint, worked_filter}
 use Rattle.model.specs.Kept.{assignment, depth, symbols_in}
-use Rattle.model.specs.Meaning.{bound}
 use Rattle.model.proofs.Trees.{constraint_fit}
 use Rattle.model.specs.declared.ConstraintNode.TheVariants.{Compare, All}
 use Rattle.evaluate.proofs.Nodes.{constraint_known}
@@ -19,7 +18,7 @@ all_met-returns-in_err-instance_met t c = λ d a m p q h.
     let is = c.args.self.now.indexes.now in
     let i = c.loop-i.i in
     let f = instance s is d (λ js. worked_constraint s x js a) in
-    let b : take (length is + 1) c.extended-all.result ≡ bound is i = c.extended-all.ensures in
+    let b = c.as_slice.ensures.value ∙ c.extended-all.ensures in
     let e = run_more f i true true None (c.loop-i.invariant d a m p q h) (c.in_err-instance_met.ensures d a m p q (omega arith) ∙ ap (λ js. where_so (worked_filter s js d) (worked_constraint s x js a) (Some true)) b) in
     c.from_residual.ensures ∙ run_stays f None (λ n. refl) (i + 1) c.set_size-i-end.result true (omega (arith, c.loop-i-test.true)) e ∙ ap (λ n. run f n true) c.set_size-i-end.ensures
 
@@ -30,7 +29,7 @@ all_met-returns-then-not-branch t c = λ d a m p q h.
     let is = c.args.self.now.indexes.now in
     let i = c.loop-i.i in
     let f = instance s is d (λ js. worked_constraint s x js a) in
-    let b : take (length is + 1) c.extended-all.result ≡ bound is i = c.extended-all.ensures in
+    let b = c.as_slice.ensures.value ∙ c.extended-all.ensures in
     let k = ap Some (sym c.if-not-branch.true) ∙ c.in_ok-instance_met.ensures d a m p q (omega arith) in
     let e = run_more f i true true (Some false) (c.loop-i.invariant d a m p q h) (k ∙ ap (λ js. where_so (worked_filter s js d) (worked_constraint s x js a) (Some true)) b) in
     run_stays f (Some false) (λ n. refl) (i + 1) c.set_size-i-end.result true (omega (arith, c.loop-i-test.true)) e ∙ ap (λ n. run f n true) c.set_size-i-end.ensures
@@ -42,7 +41,7 @@ all_met-loop-i-preserved t c = λ d a m p q h.
     let is = c.args.self.now.indexes.now in
     let i = c.loop-i.i in
     let f = instance s is d (λ js. worked_constraint s x js a) in
-    let b : take (length is + 1) c.extended-all.result ≡ bound is i = c.extended-all.ensures in
+    let b = c.as_slice.ensures.value ∙ c.extended-all.ensures in
     let k = ap Some (sym c.if-not-branch.false) ∙ c.in_ok-instance_met.ensures d a m p q (omega arith) in
     run_more f i true true (Some true) (c.loop-i.invariant d a m p q h) (k ∙ ap (λ js. where_so (worked_filter s js d) (worked_constraint s x js a) (Some true)) b)
 

@@ -1,7 +1,6 @@
-use Rattle.std.proofs.Common.{◌≡◌, ◌+◌, length, take, Some, None, sym, refl, ap, ◌∙◌, arith}
+use Rattle.std.proofs.Common.{◌≡◌, ◌+◌, Some, None, sym, refl, ap, ◌∙◌, arith}
 use Rattle.model.specs.Evaluation.{then, run, sign_of, summand, where_so, worked_filter, worked_sum}
 use Rattle.model.specs.Kept.{assignment, sum_depth, symbols_in}
-use Rattle.model.specs.Meaning.{bound}
 use Rattle.model.specs.Model.{sum_over}
 use Rattle.model.specs.declared.LinNode.TheVariants.{Amount, Term, Sum, Chain, Nothing}
 use Rattle.model.proofs.Trees.{chain_below, lin_fit}
@@ -32,7 +31,7 @@ add_over-returns-in_err-running t c = λ d l m p q h.
     let i = c.loop-i.i in
     let z = c.loop-i.running in
     let f = summand s is d (λ js. worked_sum s x g js l) in
-    let b : take (length is + 1) c.extended-all.result ≡ bound is i = c.extended-all.ensures in
+    let b = c.as_slice.ensures.value ∙ c.extended-all.ensures in
     let e = run_more f i r z None (c.loop-i.invariant d l m p q h) (c.in_err-running.ensures d l m p q (omega arith) ∙ ap (λ js. where_so (worked_filter s js d) (worked_sum s x g js l z) (Some z)) b) in
     c.from_residual.ensures ∙ run_stays f None (λ n. refl) (i + 1) c.set_size-i-end.result r (omega (arith, c.loop-i-test.true)) e ∙ ap (λ n. run f n r) c.set_size-i-end.ensures
 
@@ -46,7 +45,7 @@ add_over-loop-i-preserved t c = λ d l m p q h.
     let i = c.loop-i.i in
     let z = c.loop-i.running in
     let f = summand s is d (λ js. worked_sum s x g js l) in
-    let b : take (length is + 1) c.extended-all.result ≡ bound is i = c.extended-all.ensures in
+    let b = c.as_slice.ensures.value ∙ c.extended-all.ensures in
     run_more f i r z (Some c.in_ok-running.running) (c.loop-i.invariant d l m p q h) (c.in_ok-running.ensures d l m p q (omega arith) ∙ ap (λ js. where_so (worked_filter s js d) (worked_sum s x g js l z) (Some z)) b)
 
 pub add_over-returns : goal.add_over-returns
