@@ -1,7 +1,9 @@
 // Solves a model and prints what was found out. The work is the library's: this
-// program reads the text and prints the outcome.
+// program reads the text and lends the bytes for the line.
 #![tactic(auto)]
 
+use solver::Outcome;
+use std::io::Write;
 use std::process::ExitCode;
 use std::{env, io};
 
@@ -19,10 +21,22 @@ No model can be read yet, so `too long` is what it says of every text. SHEET, th
 file for a certificate, is not written yet.
 ";
 
+// More than the longest line has.
+const LINE: usize = 64;
+
+// Not by `{}`: a `Display` may fail after it has written something else, and no contract says that it
+// does not. What `tell` says holds of every outcome.
+fn print(rt: &HostRuntime, outcome: Outcome) -> io::Result<()> {
+    let mut printed = [0u8; LINE];
+    let Some(len) = solver::tell(outcome, &mut printed) else {
+        return Err(io::Error::other("the line has no room"));
+    };
+    rt.stdout().write_all(&printed[..len])
+}
+
 fn run(rt: &HostRuntime, model: Option<&str>) -> io::Result<()> {
     let text = console::read(rt, "solve", model)?;
-    let outcome = solver::solve(&text);
-    println!(rt; "{outcome}")
+    print(rt, solver::solve(&text))
 }
 
 // Each program matches its own words: this one takes a file or none, `check` wants two.
