@@ -1,9 +1,9 @@
 -- What reading makes of the names of a scope, by its entries. Assumes nothing.
-use Rattle.std.proofs.Common.{◌≡◌, ℕ, ◌+◌, ◌-◌, true, false, cond, List, [], ◌∷◌, count_by, reverse, drop, set, replicate, Some, Option, sym, refl, ap, ◌∙◌, drop-drop, arith}
+use Rattle.std.proofs.Common.{◌≡◌, ℕ, ◌+◌, ◌-◌, ◌≤◌, true, false, cond, List, [], ◌∷◌, ◌++◌, count_by, length, reverse, drop, set, replicate, Some, Option, sym, refl, ap, ◌∙◌, drop-drop, arith}
 use Rattle.std.specs.List.{find}
 use Rattle.std.specs.Option.{option_map}
 use Rattle.std.specs.Str.{bytes_eq}
-use Rattle.std.proofs.lemmas.List.{drop-set-lt, drop-replicate}
+use Rattle.std.proofs.lemmas.List.{drop_at, drop-set-lt, drop-replicate, length-append, length-drop}
 use Rattle.std.proofs.lemmas.List.Recursion.{is_count_by}
 use Rattle.std.proofs.lemmas.List.Sorted.{sum_by-IsPermutation, IsPermutation-reverse}
 use Rattle.grammar.specs.Grammar.{Word}
@@ -32,6 +32,15 @@ found_told x w es o h = ap sort_told h ∙ sym (found_is x w es)
 pub none_behind : (es : List Entry) (n : ℕ) (d e : Entry) → drop n es ≡ replicate (56 - n) d → drop (n + 1) (set es n e) ≡ replicate (56 - (n + 1)) d
 none_behind es n d e h =
     drop-set-lt (n + 1) es n e (omega arith) ∙ sym (drop-drop 1 n es) ∙ ap (drop 1) h ∙ drop-replicate 1 (56 - n) d ∙ ap (λ m. replicate m d) (omega arith)
+
+-- MANY AT ONCE
+
+-- what is put there, and as many blanks as have room behind it
+pub put_long : (es part : List Entry) (n : ℕ) → n ≤ 56 → length es ≡ 56 → length part ≡ n → length (part ++ drop n es) ≡ 56
+put_long es part n few long many = omega (arith, length-append part (drop n es), length-drop n es)
+
+pub put_behind : (es part : List Entry) (n : ℕ) (d : Entry) → es ≡ replicate 56 d → length part ≡ n → drop n (part ++ drop n es) ≡ replicate (56 - n) d
+put_behind es part n d none many = drop_at part (drop n es) n many ∙ ap (drop n) none ∙ drop-replicate n 56 d
 
 -- LEVELS
 

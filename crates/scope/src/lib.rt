@@ -5,7 +5,7 @@
 // outside was never changed.
 #![tactic(auto)]
 
-ghost use Rattle.std.specs.Prelude.{◌≡◌, ℕ, ◌<◌, ◌≤◌, List, [], ◌∷◌, count_by, length, reverse, Some};
+ghost use Rattle.std.specs.Prelude.{◌≡◌, ℕ, ◌<◌, ◌≤◌, List, [], ◌∷◌, count_by, length, replicate, reverse, take, Some};
 ghost use Rattle.std.specs.Str.{bytes_eq};
 ghost use Rattle.std.specs.List.{find};
 ghost use Rattle.std.specs.Option.{option_map};
@@ -116,6 +116,13 @@ fn is_index(symbol: Symbol) -> bool
     matches!(symbol, Symbol::Index(_))
 }
 
+// What a scope holds where no name is in force.
+fn blank() -> [Entry; MOST_NAMES]
+    ensures { result ≡ replicate 56 NO_ENTRY }
+{
+    [NO_ENTRY; MOST_NAMES]
+}
+
 impl Scope {
     // No name at all.
     pub fn new() -> Scope
@@ -127,9 +134,23 @@ impl Scope {
         }
     }
 
+    // The scope of these entries, the oldest first; of more than it can hold, the first.
+    pub fn of(entries: &[Entry]) -> Scope
+        ensures { result ≡ reverse (take 56 entries.now) }
+    {
+        let count = MOST_NAMES.min(entries.len());
+        let mut held = blank();
+        held[..count].copy_from_slice(&entries[..count]);
+        Scope {
+            entries: held,
+            count,
+        }
+    }
+
     // How many names are in force.
     pub fn len(&self) -> usize
-        ensures { result ≡ length self.now }
+        ensures value { result ≡ length self.now }
+        ensures few { result ≤ 56 }
     {
         self.count
     }
