@@ -1,18 +1,18 @@
 -- Numbers that were read and written. Assumes nothing.
-use Rattle.std.proofs.Common.{◌≡◌, ℕ, zero, suc, min, nat_abs, pos, neg_ℤ, ap, ◌+◌, ◌*◌, ◌<◌, ◌≤◌, Bool, true, false, cond, eqb, List, length, Some, sym, refl, ◌∙◌, subst, arith}
+use Rattle.std.proofs.Common.{◌≡◌, ℕ, nat_abs, ap, ◌+◌, ◌*◌, ◌<◌, ◌≤◌, Bool, true, false, cond, eqb, List, length, Some, sym, refl, ◌∙◌, subst, arith}
 use Rattle.model.specs.Model as model
 use Rattle.model.specs.Kept.{NumIn}
 use Rattle.compose.specs.Agree.{Agree, Settled}
 use Rattle.compose.proofs.Settled.{agree_on, agree_part}
 use Rattle.model.specs.declared.Operator.{Operator}
 use Rattle.compose.specs.declared.Name.{Name}
-use Rattle.grammar.specs.Grammar.{Word, Numeral, nought, whole, minus, Num, fixed, index, entry1, entry2, joined}
+use Rattle.grammar.specs.Grammar.{Word, Numeral, Num, fixed, index, entry1, entry2, joined}
 use Rattle.grammar.specs.Reading.{Names, find, a_table, an_index, size, value}
 use Rattle.grammar.specs.Says.{num_of, naught, number_of, row_place, column_place}
 use Rattle.scope.specs.declared.Grid.{Grid}
-use Rattle.tokens.specs.declared.numbers.Number.{Number}
+use Rattle.tokens.specs.declared.Number.{Number}
 use Rattle.tokens.specs.Sizes.{Counts, told_value}
-use Rattle.tokens.proofs.Counted.{value_told}
+use Rattle.tokens.proofs.Counted.{told_size, value_told}
 use Rattle.expressions.specs.declared.Node.{Node}
 use Rattle.expressions.specs.declared.Places.{Places}
 use Rattle.expressions.specs.Made.{Zero, Made, NumMade}
@@ -42,14 +42,6 @@ pub made_from : {x : List ℕ} {at free c : ℕ} {us vs ws : List ℕ} {T : List
 made_from f m = record { onward = m.onward; inside = m.inside; short = m.short; words = m.words; forward = m.forward; placed = m.placed; tree = λ z. m.tree (f z) }
 
 -- NUMBERS
-
-told_size : (n : Numeral) → nat_abs (told_value n) ≡ min 1000001 (size n)
-told_size nought = refl
-told_size (whole d ds) = refl
-told_size (minus d ds) = go (min 1000001 (size (minus d ds))) where
-  go : (k : ℕ) → nat_abs (neg_ℤ (pos k)) ≡ k
-  go zero = refl
-  go (suc k) = refl
 
 pub small_told : (n : Numeral) (p : Number) → p.value ≡ told_value n → nat_abs p.value < 1000000 → size n < 1000000
 small_told n p v l = let m = ap nat_abs v ∙ told_size n in omega arith

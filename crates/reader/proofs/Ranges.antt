@@ -7,7 +7,7 @@ use Rattle.grammar.specs.Reading.{size, within}
 use Rattle.grammar.proofs.Bounded.{within_size, size_is}
 use Rattle.std.proofs.lemmas.Int.{ints}
 use Rattle.std.proofs.lemmas.Bool.{leb-true}
-use Rattle.tokens.specs.declared.numbers.Number.{Number}
+use Rattle.tokens.specs.declared.Number.{Number}
 use Rattle.tokens.specs.Sizes.{Counts}
 use Rattle.tokens.proofs.Counted.{value_told}
 use Rattle.reader.specs.Numbers.{Tells}

@@ -15,7 +15,7 @@ use Rattle.model.specs.Kept.{listed}
 use Rattle.model.specs.Words.{word}
 use Rattle.tokens.specs.Told.{Stood}
 use Rattle.tokens.proofs.Steps.{then_ok, then_bad}
-use Rattle.tokens.specs.declared.numbers.Number.{Number}
+use Rattle.tokens.specs.declared.Number.{Number}
 use Rattle.reader.specs.declared.Shape.{Shape}
 use Rattle.reader.specs.declared.TableLine.{TableLine}
 use Rattle.reader.specs.Lines.{Ends, NumberRead, ShapeRead, numbers_in, NumbersRead, TableRead}

@@ -6,7 +6,7 @@ use Rattle.grammar.specs.Reading as reading
 use Rattle.grammar.specs.Reading.{Names, find, free}
 use Rattle.scope.specs.declared.Symbol.{Symbol}
 use Rattle.scope.specs.Names.{sort_told}
-use Rattle.tokens.specs.declared.numbers.Number.{Number}
+use Rattle.tokens.specs.declared.Number.{Number}
 use Rattle.tokens.specs.Told.{Part, Stood}
 use Rattle.tokens.proofs.Steps.{steps}
 use Rattle.reader.specs.declared.SizeAt.{SizeAt}

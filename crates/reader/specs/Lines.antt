@@ -8,7 +8,7 @@ use Rattle.grammar.specs.Reading as reading
 use Rattle.model.specs.Kept.{listed}
 use Rattle.model.specs.Words.{word}
 use Rattle.scope.specs.Names.{part}
-use Rattle.tokens.specs.declared.numbers.Number.{Number}
+use Rattle.tokens.specs.declared.Number.{Number}
 use Rattle.reader.specs.declared.SizeAt.{SizeAt}
 use Rattle.reader.specs.declared.SetLine.{SetLine}
 use Rattle.reader.specs.declared.Shape.{Shape}

@@ -3,7 +3,7 @@ use Rattle.std.specs.Prelude.{◌≡◌, ℕ, cond, List, codes, nat_le}
 use Rattle.grammar.specs.declared.Refusal.TheVariants.{Name, Range}
 use Rattle.grammar.specs.Grammar.{Word, Numeral}
 use Rattle.grammar.specs.Reading.{Got, ok, bad, then, literal, name, numeral, size, within, Names, free}
-use Rattle.tokens.specs.declared.numbers.Number as number
+use Rattle.tokens.specs.declared.Number as number
 use Rattle.tokens.specs.Sizes.{told_value}
 
 -- p tells of n, sizes above 1,000,000 being all the same

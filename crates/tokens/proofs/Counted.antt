@@ -1,5 +1,5 @@
 -- The ends of a number, as the code finds them, and its size. Assumes nothing.
-use Rattle.std.proofs.Common.{◌≡◌, ℕ, ◌+◌, ◌-◌, ◌*◌, ◌<◌, ◌≤◌, min, true, false, cond, eqb, leb, List, ◌∷◌, map, length, pos, neg_ℤ, refl, ap, ◌∙◌, ⊎_elim, arith}
+use Rattle.std.proofs.Common.{◌≡◌, ℕ, ◌+◌, ◌-◌, ◌*◌, ◌<◌, ◌≤◌, min, true, false, cond, eqb, leb, List, ◌∷◌, map, length, zero, suc, nat_abs, pos, neg_ℤ, refl, ap, ◌∙◌, ⊎_elim, arith}
 use Rattle.std.proofs.lemmas.Int.Digits.{number_after_ge}
 use Rattle.std.proofs.lemmas.Bool.{cond-true, cond-false, cases_lt, eq-eqb, ne_eqb, and_parts, and_from, leb-true, le-leb}
 use Rattle.grammar.specs.declared.Refusal.TheVariants.{Syntax, Range}
@@ -7,6 +7,7 @@ use Rattle.grammar.specs.Grammar.{is_digit, is_top, Numeral, nought, whole, minu
 use Rattle.grammar.specs.Reading.{ok, bad, byte, in_length, digits_at, size, value, numeral}
 use Rattle.grammar.proofs.Bytes.{top_other}
 use Rattle.tokens.proofs.Steps.{inside, told_on}
+use Rattle.tokens.specs.declared.Number.{Number}
 use Rattle.tokens.specs.Sizes.{told_value, capped}
 
 pub capped_more : (n m c : ℕ) (ds : List ℕ) → m ≡ min (n * 10 + (c - 48)) 1000001 → capped m ds ≡ capped n (c ∷ ds)
@@ -33,6 +34,18 @@ pub value_told : (n : Numeral) → size n ≤ 1000000 → told_value n ≡ value
 value_told nought l = refl
 value_told (whole d ds) l = let z : min 1000001 (size (whole d ds)) ≡ size (whole d ds) = omega arith in ap pos z
 value_told (minus d ds) l = let z : min 1000001 (size (minus d ds)) ≡ size (minus d ds) = omega arith in ap (λ s. neg_ℤ (pos s)) z
+
+pub told_size : (n : Numeral) → nat_abs (told_value n) ≡ min 1000001 (size n)
+told_size nought = refl
+told_size (whole d ds) = refl
+told_size (minus d ds) = go (min 1000001 (size (minus d ds))) where
+  go : (k : ℕ) → nat_abs (neg_ℤ (pos k)) ≡ k
+  go zero = refl
+  go (suc k) = refl
+
+-- and what is told in range is the number that stands there
+pub number_told : (n : Numeral) (p : Number) → p.value ≡ told_value n → nat_abs p.value ≤ 1000000 → p.value ≡ value n
+number_told n p v l = let m = ap nat_abs v ∙ told_size n in v ∙ value_told n (omega arith)
 
 -- NUMERALS by how they begin
 

@@ -5,7 +5,7 @@ use Rattle.grammar.specs.Grammar.{Numeral, nought, whole, minus}
 use Rattle.grammar.specs.declared.Refusal.{Refusal}
 use Rattle.grammar.specs.Reading.{size, numeral}
 use Rattle.tokens.specs.Told.{Told}
-use Rattle.tokens.specs.declared.numbers.Number.{Number}
+use Rattle.tokens.specs.declared.Number.{Number}
 
 -- the value, sizes above 1,000,000 being all the same
 abbrev pub told_value : Numeral → ℤ

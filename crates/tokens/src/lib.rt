@@ -14,10 +14,22 @@
 // text is refused as too long there, and where it does not, as it is at any other place.
 #![tactic(auto)]
 
+ghost use Rattle.std.specs.Prelude.{◌≤ℤ◌, pos, neg_ℤ};
+
 mod bytes;
 mod numbers;
 mod words;
 
 pub use bytes::{LONGEST, is_at, literal, look};
-pub use numbers::{Number, numeral};
+pub use numbers::numeral;
 pub use words::{Reserved, is_letter, is_letter_at, name, reserved_word, word};
+
+// A number that stands in a text: where it ends, and its value. One above 1,000,000 in size is told
+// as 1,000,001 or -1,000,001, since nothing that large is in range anywhere.
+#[derive(Clone, Copy, Debug, PartialEq, Eq)]
+pub struct Number {
+    pub end: usize,
+    pub value: i64,
+    // whatever made it, its size fits 32 bits
+    ghost small: { (neg_ℤ (pos 4294967295) ≤ℤ value) × (value ≤ℤ pos 4294967295) },
+}

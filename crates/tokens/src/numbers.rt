@@ -5,16 +5,9 @@ ghost use Rattle.grammar.specs.Reading.{byte, in_length, digits_at};
 ghost use Rattle.tokens.specs.Sizes.{Counts, NumeralTold};
 ghost use Rattle.tokens.specs.Told.{Told};
 
+use crate::Number;
 use crate::bytes::{LONGEST, look};
 use grammar::Refusal;
-
-// A number that stands in a text: where it ends, and its value. One above 1,000,000 in size is told
-// as 1,000,001 or -1,000,001, since nothing that large is in range anywhere.
-#[derive(Clone, Copy, Debug, PartialEq, Eq)]
-pub struct Number {
-    pub end: usize,
-    pub value: i64,
-}
 
 // What stands for every larger size.
 const TOO_LARGE: u32 = 1_000_001;
