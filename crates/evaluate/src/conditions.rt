@@ -32,7 +32,11 @@ pub fn condition(words: &[u64], indexes: &[u32], k: usize) -> Option<bool>
         }
         CondNode::Both(i, j) => {
             let first = condition(words, indexes, i)?;
-            Some(first && condition(words, indexes, j)?)
+            if first {
+                condition(words, indexes, j)
+            } else {
+                Some(false)
+            }
         }
     }
 }

@@ -149,8 +149,10 @@ impl<'a> Site<'a> {
     }
 
     // A sum over a set, one index after the other. `nest` is how many sums over sets may stand within
-    // each other here, this one among them.
+    // each other here, this one among them. It is not inlined into `add_sum`, which calls itself for each
+    // chain in a chain, and would take the indexes of a set along on the stack.
     #[cycle(sum)]
+    #[inline(never)]
     fn add_over(&self, over: Over, sign: Sign, so_far: Running) -> Option<Running>
         ensures { (c : Option Cond) (l : Lin) → Numbered self.now.words.now → FilterIn self.now.words.now over.filter c → LinIn self.now.words.now over.body l → sum_depth l < self.now.nest →
             result ≡ run (summand_of (symbols_in self.now.words.now) self.now.indexes.now c (λ js. worked_sum (symbols_in self.now.words.now) (assignment self.now.values.now) sign js l))

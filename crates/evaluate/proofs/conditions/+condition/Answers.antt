@@ -27,13 +27,9 @@ pub returns-in_err-first-in-Both : goal.returns-in_err-first-in-Both
 returns-in_err-first-in-Both t c = cond_both _ _ _ c.in-Both.i c.in-Both.j (ap Some (sym c.in-Both.is) ∙ c.in_ok-r.ensures)
     (λ d e p q. c.from_residual-in_err-first-in-Both.ensures ∙ then_none _ (c.in_err-first-in-Both.ensures d p))
 
-pub returns-in_ok-condition-in-Both : goal.returns-in_ok-condition-in-Both
-returns-in_ok-condition-in-Both t c = cond_both _ _ _ c.in-Both.i c.in-Both.j (ap Some (sym c.in-Both.is) ∙ c.in_ok-r.ensures)
-    (λ d e p q. then_some _ c.in_ok-first-in-Both.first (c.in_ok-first-in-Both.ensures d p) (rw c.if-first.true (c.in_ok-condition-in-Both.ensures e q)))
-
-pub returns-in_err-condition-in-Both : goal.returns-in_err-condition-in-Both
-returns-in_err-condition-in-Both t c = cond_both _ _ _ c.in-Both.i c.in-Both.j (ap Some (sym c.in-Both.is) ∙ c.in_ok-r.ensures)
-    (λ d e p q. then_some _ c.in_ok-first-in-Both.first (c.in_ok-first-in-Both.ensures d p) (rw c.if-first.true (c.from_residual-in_err-condition-in-Both.ensures ∙ c.in_err-condition-in-Both.ensures e q)))
+pub returns-then-first : goal.returns-then-first
+returns-then-first t c = cond_both _ _ _ c.in-Both.i c.in-Both.j (ap Some (sym c.in-Both.is) ∙ c.in_ok-r.ensures)
+    (λ d e p q. then_some _ c.in_ok-first-in-Both.first (c.in_ok-first-in-Both.ensures d p) (rw c.if-first.true (c.condition-then-first.ensures e q)))
 
 pub returns-else-first : goal.returns-else-first
 returns-else-first t c = cond_both _ _ _ c.in-Both.i c.in-Both.j (ap Some (sym c.in-Both.is) ∙ c.in_ok-r.ensures)
