@@ -18,7 +18,8 @@ use crate::FIRST_NODE;
 use model::{CondNode, ConstraintNode, LinNode, NumNode, Over, TermNode};
 
 // A sort of node. Writing is the way back of reading (`model::nodes`): what was written at a place
-// is read there as that node.
+// is read there as that node. `put` is inlined, or a node is built in memory only to be taken apart
+// again, which takes five times as long.
 pub trait Node: Copy {
     // The node that words hold at a place.
     ghost at: { List ℕ → ℕ → Option Self };
@@ -137,6 +138,7 @@ impl Node for NumNode {
 
     ghost fits = { num_fits };
 
+    #[inline(always)]
     fn put(self, words: &mut [u64], free: usize) -> Option<usize> {
         match self {
             NumNode::Fixed(number) => put_words(words, free, &[1, number.cast_unsigned()]),
@@ -157,6 +159,7 @@ impl Node for CondNode {
 
     ghost fits = { cond_fits };
 
+    #[inline(always)]
     fn put(self, words: &mut [u64], free: usize) -> Option<usize> {
         match self {
             CondNode::Relate(relation, left, right) => {
@@ -176,6 +179,7 @@ impl Node for LinNode {
 
     ghost fits = { lin_fits };
 
+    #[inline(always)]
     fn put(self, words: &mut [u64], free: usize) -> Option<usize> {
         match self {
             LinNode::Term(term) => put_term(words, free, term),
@@ -194,6 +198,7 @@ impl Node for ConstraintNode {
 
     ghost fits = { constraint_fits };
 
+    #[inline(always)]
     fn put(self, words: &mut [u64], free: usize) -> Option<usize> {
         match self {
             ConstraintNode::Compare(comparison, left, right) => {
