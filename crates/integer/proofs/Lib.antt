@@ -1,3 +1,4 @@
+pub mod Floors
 pub mod Order
 pub mod Ring
 pub mod Sizes

@@ -1,11 +1,30 @@
 -- Sets, tables and arrays, as words have them. Assumes nothing.
-use Rattle.std.proofs.Common.{◌≡◌, ℕ, ◌+◌, ◌*◌, ◌<◌, ◌≤◌, Bool, true, false, cond, ◌&&◌, List, get_or, ℤ, pos, negsuc, Some, None, Option, sym, refl, ap, ◌∙◌, subst, ap₂, arith, w64, to_z}
+use Rattle.std.proofs.Common.{◌≡◌, ℕ, ◌+◌, ◌*◌, ◌<◌, ◌≤◌, Bool, true, false, cond, ◌&&◌, List, get_or, ℤ, pos, negsuc, nat_abs, Some, None, Option, sym, refl, ap, ◌∙◌, subst, ap₂, mul-le-mul, arith, w64, to_z}
+use lib.Arith.{digits_lt}
 use Rattle.std.proofs.lemmas.Bool.{le-ltb, cond-true, cond-false}
 use Rattle.model.specs.Model.{Table, Array}
 use Rattle.model.specs.Meaning.{below, inside, place, entry_of, table_of, array_of, present, variable, first, no_table, no_array}
 use Rattle.model.specs.Words.{word, table_count, array_count, table_rows, table_columns, table_start, array_rows, array_columns, array_first}
 use Rattle.model.specs.Kept.{table_in, array_in, symbols_in, Numbered}
 use Rattle.model.proofs.Listed.{listed_at, listed_past}
+
+below_some : (n : ℕ) (i : ℤ) (a : ℕ) → Some a ≡ cond (below n i) (Some (nat_abs i)) None → (below n i ≡ true) × (a ≡ nat_abs i)
+below_some n i a e = by (below n i) refl e
+  where
+    by : (t : Bool) → below n i ≡ t → Some a ≡ cond t (Some (nat_abs i)) None → (below n i ≡ true) × (a ≡ nat_abs i)
+    by true h f = (h, cc)
+    by false h f = let z : ◌≡◌ {A = ℕ} 0 1 = cc in absurd (omega arith)
+
+pub placed : (rows columns : ℕ) (i j : ℤ) (a b : ℕ) → Some a ≡ cond (below rows i) (Some (nat_abs i)) None → Some b ≡ cond (below columns j) (Some (nat_abs j)) None
+    → Some (a * columns + b) ≡ cond (inside rows columns i j) (Some (place columns i j)) None
+placed rows columns i j a b e f =
+    let (p, q) = below_some rows i a e in
+    let (r, s) = below_some columns j b f in
+    simp (p, r) (simp (q, s))
+
+-- at most a million, with at most a thousand of each
+pub place_small : (rows columns a b : ℕ) → rows ≤ 1000 → columns ≤ 1000 → a < rows → b < columns → a * columns + b < 1000000
+place_small rows columns a b p q h k = omega (arith, digits_lt {q = a} h k, mul-le-mul p q)
 
 -- the same rows and columns under other names
 pub same_place : (r s c d : ℕ) (i j : ℤ) (o : Option ℕ) → r ≡ s → c ≡ d → o ≡ cond (inside r c i j) (Some (place c i j)) None → o ≡ cond (inside s d i j) (Some (place d i j)) None
