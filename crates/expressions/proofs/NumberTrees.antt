@@ -12,7 +12,7 @@ use Rattle.grammar.specs.Says.{num_of, naught, number_of, row_place, column_plac
 use Rattle.scope.specs.declared.Grid.{Grid}
 use Rattle.tokens.specs.declared.Number.{Number}
 use Rattle.tokens.specs.Sizes.{Counts, told_value}
-use Rattle.tokens.proofs.Counted.{told_size, value_told}
+use Rattle.tokens.proofs.Counted.{told_size, number_told}
 use Rattle.expressions.specs.declared.Node.{Node}
 use Rattle.expressions.specs.declared.Places.{Places}
 use Rattle.expressions.specs.Made.{Zero, Made, NumMade}
@@ -50,7 +50,6 @@ pub fixed_made : (x us ws : List ℕ) (at free next : ℕ) (n : Numeral) (p : Nu
     → Settled 1808 (free + 2) ws (λ vs. NumIn vs free (model.fixed p.value)) → NumMade x ns at free us ws (fixed n) (record { place = free; next = next; end = p.end })
 unfolding num_of
 fixed_made x us ws at free next n p ns (a, b, v, d) l r z f t =
-    let m = ap nat_abs v ∙ told_size n in
     record {
       onward = a;
       inside = b;
@@ -59,7 +58,7 @@ fixed_made x us ws at free next n p ns (a, b, v, d) l r z f t =
       forward = omega arith;
       placed = (omega arith, omega arith);
       tree = λ _. subst (λ k. Settled 1808 k ws (λ vs. NumIn vs free (model.fixed (value n)))) (sym f)
-          (subst (λ y. Settled 1808 (free + 2) ws (λ vs. NumIn vs free (model.fixed y))) (v ∙ value_told n (omega arith)) t);
+          (subst (λ y. Settled 1808 (free + 2) ws (λ vs. NumIn vs free (model.fixed y))) (number_told n p v (omega arith)) t);
     }
 
 pub index_made : (x us ws : List ℕ) (n : Name) (free next level : ℕ) (ns : Names) (w : Word) → n.begin < n.end → n.end ≤ length x → n.end ≤ 65536 → 1810 ≤ free → find w ns ≡ Some (an_index level) → next ≡ free + 2

@@ -35,10 +35,11 @@ none_behind es n d e h =
 
 -- MANY AT ONCE
 
--- what is put there, and as many blanks as have room behind it
+-- what takes the place of the first entries leaves as many as there were
 pub put_long : (es part : List Entry) (n : ℕ) → n ≤ 56 → length es ≡ 56 → length part ≡ n → length (part ++ drop n es) ≡ 56
 put_long es part n few long many = omega (arith, length-append part (drop n es), length-drop n es)
 
+-- and behind it there are none, where there were none before
 pub put_behind : (es part : List Entry) (n : ℕ) (d : Entry) → es ≡ replicate 56 d → length part ≡ n → drop n (part ++ drop n es) ≡ replicate (56 - n) d
 put_behind es part n d none many = drop_at part (drop n es) n many ∙ ap (drop n) none ∙ drop-replicate n 56 d
 

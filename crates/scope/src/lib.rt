@@ -5,7 +5,7 @@
 // outside was never changed.
 #![tactic(auto)]
 
-ghost use Rattle.std.specs.Prelude.{◌≡◌, ℕ, ◌<◌, ◌≤◌, List, [], ◌∷◌, count_by, length, replicate, reverse, take, Some};
+ghost use Rattle.std.specs.Prelude.{◌≡◌, ℕ, ◌<◌, ◌≤◌, List, [], ◌∷◌, length, replicate, reverse, take, Some};
 ghost use Rattle.std.specs.Str.{bytes_eq};
 ghost use Rattle.std.specs.List.{find};
 ghost use Rattle.std.specs.Option.{option_map};
@@ -100,16 +100,6 @@ fn last_named(text: &[u8], entries: &[Entry], wanted: &[u8]) -> Option<Symbol>
         .map(|entry| entry.symbol)
 }
 
-// How many of these entries are indexes.
-fn count_indexes(entries: &[Entry]) -> usize
-    ensures { result ≡ count_by (λ e. index_there (Some (sort_of e.symbol))) entries.now }
-{
-    entries
-        .iter()
-        .filter(|entry| is_index(entry.symbol))
-        .count()
-}
-
 fn is_index(symbol: Symbol) -> bool
     ensures { result ≡ index_there (Some (sort_of symbol)) }
 {
@@ -129,7 +119,7 @@ impl Scope {
         ensures { result ≡ [] }
     {
         Scope {
-            entries: [NO_ENTRY; MOST_NAMES],
+            entries: blank(),
             count: 0,
         }
     }
@@ -190,6 +180,9 @@ impl Scope {
     pub fn indexes(&self) -> usize
         ensures { (x : List ℕ) → result ≡ levels (names_in x self.now) }
     {
-        count_indexes(self.entries())
+        self.entries()
+            .iter()
+            .filter(|entry| is_index(entry.symbol))
+            .count()
     }
 }

@@ -35,6 +35,7 @@ value_told nought l = refl
 value_told (whole d ds) l = let z : min 1000001 (size (whole d ds)) ≡ size (whole d ds) = omega arith in ap pos z
 value_told (minus d ds) l = let z : min 1000001 (size (minus d ds)) ≡ size (minus d ds) = omega arith in ap (λ s. neg_ℤ (pos s)) z
 
+-- the size that is told
 pub told_size : (n : Numeral) → nat_abs (told_value n) ≡ min 1000001 (size n)
 told_size nought = refl
 told_size (whole d ds) = refl
@@ -43,7 +44,7 @@ told_size (minus d ds) = go (min 1000001 (size (minus d ds))) where
   go zero = refl
   go (suc k) = refl
 
--- and what is told in range is the number that stands there
+-- a number that is told in range is the one that stands there
 pub number_told : (n : Numeral) (p : Number) → p.value ≡ told_value n → nat_abs p.value ≤ 1000000 → p.value ≡ value n
 number_told n p v l = let m = ap nat_abs v ∙ told_size n in v ∙ value_told n (omega arith)
 
